@@ -1,0 +1,2 @@
+-- Theorems about the definitions that belong to no one function.
+pub mod Examples

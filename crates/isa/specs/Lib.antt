@@ -1,0 +1,4 @@
+pub mod Base
+pub mod Cfi
+pub mod System
+pub mod Decode
