@@ -9,9 +9,6 @@ use Rattle.word.proofs.Halves.{half}
 use Rattle.word.proofs.shift.filled.Statement.{statement}
 use Rattle.word.proofs.shift.filled.Tie as tie
 
-sub-result : tie.Need-sub-result
-sub-result c = shr-le (c .before .args .ones) (c .before .args .n)
-
 add-result : tie.Need-add-result
 add-result c =
     omega
@@ -40,4 +37,4 @@ returns-2 c k e p l =
 
 pub filled-spec : {M : Type 1} → statement M
 filled-spec =
-    tie.close (tie.spec (λ c. search needs) (λ c. search needs) sub-result add-result returns returns-2)
+    tie.close (tie.spec (λ c. search needs) (λ c. search needs) (λ c. shr-le (c .before .args .ones) (c .before .args .n)) add-result returns returns-2)
