@@ -1,6 +1,6 @@
 -- The bits that an arithmetic shift brings in, over the number of bits k: it gives a number of k bits, and rounds the signed number down.
 -- Assumes nothing.
-use mathlib.Core.Path.{_≡_, refl, sym, ap}
+use mathlib.Core.Path.{_≡_, ap}
 use Prim.Native.Nat.{ℕ, suc, _+_, _-_, _*_, _/_, _%_, _^_, _≤_, _<_}
 use native.Mathlib.Nat.{zero-mul, add-zero, one-mul, mul-sub, mul-comm, mul-le-mul-right, mod-lt, div-one, div-add-mod'}
 use native.Mathlib.Omega.{arith}

@@ -1,10 +1,9 @@
 -- A number of k bits and its top bit, over k.
 -- Assumes nothing.
-use mathlib.Core.Path.{_≡_, refl, sym}
-use Prim.Native.Nat.{ℕ, zero, suc, _+_, _-_, _*_, _/_, _%_, _^_, _≤_, _<_}
+use mathlib.Core.Path.{_≡_}
+use Prim.Native.Nat.{ℕ, zero, suc, _-_, _*_, _/_, _^_, _≤_, _<_}
 use native.Mathlib.Nat.{pow-suc, div-eq-of-lt, div-eq-of-lt-le}
 use native.Mathlib.Omega.{arith}
-use lib.Pow.{pow-pos}
 
 -- k bits are twice as many numbers as k − 1 bits
 pub half : (k : ℕ) → 0 < k → 2 ^ k ≡ 2 ^ (k - 1) * 2

@@ -1,7 +1,7 @@
 -- The fields of a word are all of it.
 -- Assumes nothing.
-use mathlib.Core.Path.{_≡_, refl, sym}
-use Prim.Native.Nat.{ℕ, _+_, _*_, _/_, _%_, _^_, _≤_, _<_}
+use mathlib.Core.Path.{_≡_}
+use Prim.Native.Nat.{ℕ, _+_, _*_, _/_, _%_, _^_, _<_}
 use native.Mathlib.Omega.{arith}
 use Rattle.word.specs.Field.{opcode, fieldsOf}
 use Rattle.word.specs.declared.field.Fields.{Fields}

@@ -1,7 +1,7 @@
 -- Sums and differences that wrap: one undoes the other, and a word form sees only the low 32 bits.
 -- Assumes nothing.
-use mathlib.Core.Path.{_≡_, refl, sym, ap, _∙_}
-use Prim.Native.Nat.{ℕ, _+_, _-_, _%_, _^_, _≤_, _<_}
+use mathlib.Core.Path.{_≡_, sym, ap, _∙_}
+use Prim.Native.Nat.{ℕ, _+_, _-_, _%_, _^_, _<_}
 use native.Mathlib.Omega.{arith}
 use Rattle.word.specs.Sign.{signExtendOf}
 use Rattle.word.specs.Sum.{sumOf, differenceOf, sumWordOf, differenceWordOf}

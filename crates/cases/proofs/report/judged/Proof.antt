@@ -1,7 +1,6 @@
 -- `cases::report::judged` meets its contract: `same` tells whether the lists are equal, and each arm's counts follow.
 -- Assumes nothing.
-use mathlib.Core.Path.{_≡_, _∙_, sym, subst}
-use mathlib.Core.Bool.{true, false}
+use mathlib.Core.Path.{_∙_, sym, subst}
 use lib.Dec.{T}
 use borrow.Author.Needs.{needs}
 use Rattle.cases.proofs.report.judged.Statement.{statement}

@@ -1,7 +1,6 @@
 -- `cases::report::print_numbers` is safe and ends. Assumes nothing.
 use borrow.Author.Needs.{needs}
 use Prim.Native.Nat.{_≤_, _-_}
-use native.Mathlib.Omega.{arith}
 use lib.ListN.{length}
 use Rattle.cases.proofs.report.print_numbers.Statement.{statement}
 use Rattle.cases.proofs.report.print_numbers.Tie as tie
