@@ -2,3 +2,4 @@ pub mod Base
 pub mod Cfi
 pub mod System
 pub mod Decode
+pub mod Size

@@ -14,6 +14,8 @@ mod base;
 mod cfi;
 // ECALL, EBREAK, the returns and the CSR instructions.
 mod system;
+// How many bytes an access moves.
+pub mod size;
 
 // How many bytes an access moves: 1, 2, 4 or 8.
 pub enum Width {

@@ -1,0 +1,19 @@
+use borrow.Author.Tests.{eq-eqb, ne-eqb}
+use Rattle.memory.specs.Refusal.{refusedOf}
+use Rattle.memory.proofs.refused.Statement.{statement}
+use Rattle.memory.proofs.refused.Tie as tie
+
+returns : tie.Need-returns
+unfolding refusedOf
+returns c = rw (eq-eqb _ _ (c .if1 .taken))
+
+returns-2 : tie.Need-returns-2
+unfolding refusedOf
+returns-2 c = rw (ne-eqb _ _ (c .before .if1 .left), ne-eqb _ _ (c .if2 .taken))
+
+returns-3 : tie.Need-returns-3
+unfolding refusedOf
+returns-3 c = rw (ne-eqb _ _ (c .before .if1 .left), eq-eqb _ _ (c .if2 .left))
+
+pub refused-spec : {M : Type 1} → statement M
+refused-spec = tie.close (tie.spec returns returns-2 returns-3)

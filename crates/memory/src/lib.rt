@@ -1,0 +1,68 @@
+// The bytes behind an address: loads and stores of any width in a lent slice, little-endian.
+//
+// A place in memory is an index here; which address stands for it, and who may use it, is the business
+// of crate `address`.
+use isa::size;
+use isa::Width;
+use word::sign;
+ghost use mathlib.Core.Path.{_≡_};
+ghost use Prim.Native.Nat.{_+_, _≤_};
+ghost use lib.ListN.{length};
+ghost use Rattle.isa.specs.Size.{sizeOf};
+ghost use Rattle.memory.specs.Bytes.{loadOf, storeOf};
+ghost use Rattle.memory.specs.Extend.{extendOf, signedOf};
+ghost use Rattle.memory.specs.Refusal.{refusedOf};
+
+// The two loops over the bytes of an access.
+mod bytes;
+
+// The number at a place, its upper bits zero.
+pub fn load(mem: &[u8], at: usize, w: Width) -> u64
+    requires { ⌜ at + sizeOf w ≤ length (now mem) ⌝ }
+    ensures { λ r. ⌜ r ≡ loadOf (now (mem .entry)) at (sizeOf w) ⌝ }
+{
+    bytes::read(mem, at, size::bytes(w) as usize)
+}
+
+// A loaded number, its sign copied to the bits above.
+fn signed(w: Width, v: u64) -> u64
+    ensures { λ r. ⌜ r ≡ signedOf w v ⌝ }
+{
+    match w {
+        Width::Byte => sign::from_8(v),
+        Width::Half => sign::from_16(v),
+        Width::Word => sign::from_32(v),
+        Width::Double => v,
+    }
+}
+
+// What a load puts into its register.
+pub fn extend(w: Width, sign: bool, v: u64) -> u64
+    ensures { λ r. ⌜ r ≡ extendOf w sign v ⌝ }
+{
+    if sign {
+        return signed(w, v);
+    }
+    v
+}
+
+// The low bytes of a number, put at a place.
+pub fn store(mem: &mut [u8], at: usize, w: Width, v: u64)
+    requires { ⌜ at + sizeOf w ≤ length (now mem) ⌝ }
+    ensures { λ _. ⌜ now (mem .exit) ≡ storeOf (now (mem .entry)) at (sizeOf w) v ⌝ }
+{
+    bytes::write(&mut mem[at..], size::bytes(w) as usize, v);
+}
+
+// Refusal 2, of memory of this length.
+pub fn refused(len: u64) -> bool
+    ensures { λ r. ⌜ r ≡ refusedOf len ⌝ }
+{
+    if len == 0 {
+        return true;
+    }
+    if len % 4096 != 0 {
+        return true;
+    }
+    len > 1_048_576
+}
