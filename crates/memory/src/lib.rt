@@ -2,8 +2,8 @@
 //
 // A place in memory is an index here; which address stands for it, and who may use it, is the business
 // of crate `address`.
-use isa::size;
 use isa::Width;
+use isa::size;
 use word::sign;
 ghost use mathlib.Core.Path.{_≡_};
 ghost use Prim.Native.Nat.{_+_, _≤_};

@@ -1,0 +1,46 @@
+use Rattle.word.proofs.Choices.{first}
+use mathlib.Core.Path.{sym, _∙_}
+use Rattle.address.specs.Place.{placeOf, reachedOf}
+use borrow.Author.Needs.{needs}
+use Rattle.address.proofs.place.translate.Statement.{statement}
+use Rattle.address.proofs.place.translate.Tie as tie
+
+transform-requires : tie.Need-transform-requires
+transform-requires c κs = search needs
+
+aligned-requires : tie.Need-aligned-requires
+aligned-requires c κs = search needs
+
+paged-requires : tie.Need-paged-requires
+paged-requires c κs = search needs
+
+returns : tie.Need-returns
+unfolding placeOf reachedOf
+returns c = let b = c .before .before .before in rw (← b .before .transform .ensures, sym (b .aligned .ensures) ∙ c .before .before .if1 .taken) (c .paged .ensures ∙ sym (first _ _ _ (c .before .if2 .taken)))
+
+plain-requires : tie.Need-plain-requires
+plain-requires c κs = search needs
+
+returns-2 : tie.Need-returns-2
+unfolding placeOf reachedOf
+returns-2 c = let b = c .before .before .before in rw (← b .before .transform .ensures, sym (b .aligned .ensures) ∙ c .before .before .if1 .taken, c .before .if2 .left) (c .plain .ensures)
+
+misaligned-requires : tie.Need-misaligned-requires
+misaligned-requires c κs = search needs
+
+returns-3 : tie.Need-returns-3
+unfolding placeOf reachedOf
+returns-3 c = let b = c .before .before in rw (← b .before .transform .ensures, sym (b .aligned .ensures) ∙ c .before .if1 .left, c .misaligned .ensures)
+
+pub translate-spec : {M : Type 1} → statement M
+translate-spec =
+    tie.close
+    (tie.spec
+    transform-requires
+    aligned-requires
+    paged-requires
+    returns
+    plain-requires
+    returns-2
+    misaligned-requires
+    returns-3)

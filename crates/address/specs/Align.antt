@@ -1,0 +1,9 @@
+-- Step 3: the address is a multiple of the access's size.
+use mathlib.Core.Bool.{Bool}
+use Prim.Native.Nat.{ℕ, _%_}
+use lib.Dec.{eqb}
+use Rattle.isa.specs.declared.Width.{Width}
+use Rattle.isa.specs.Size.{sizeOf}
+
+unfoldable pub alignedOf : Width → ℕ → Bool
+alignedOf w a = eqb (a % sizeOf w) 0

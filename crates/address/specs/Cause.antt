@@ -1,0 +1,31 @@
+-- The causes of an access's faults.
+use Prim.Native.Nat.{ℕ}
+use Rattle.address.specs.declared.Kind.{Kind}
+use Rattle.address.specs.declared.Kind.the-variants.{Fetch, Load, Store, Push, Pop, Swap}
+
+-- step 3: misaligned load, store or jump target: causes 4, 6, 0; misaligned swap: cause 7. A push or pop cannot be
+-- misaligned, since ssp is a multiple of 8; the manual's cause for it is 7 too
+abbrev pub misalignedOf : Kind → ℕ
+misalignedOf Fetch = 0
+misalignedOf Load = 4
+misalignedOf Store = 6
+misalignedOf Push = 7
+misalignedOf Pop = 7
+misalignedOf Swap = 7
+
+-- fetch faults are 1 and 12, load 5 and 13, store and every shadow access 7 and 15
+abbrev pub accessOf : Kind → ℕ
+accessOf Fetch = 1
+accessOf Load = 5
+accessOf Store = 7
+accessOf Push = 7
+accessOf Pop = 7
+accessOf Swap = 7
+
+abbrev pub pageOf : Kind → ℕ
+pageOf Fetch = 12
+pageOf Load = 13
+pageOf Store = 15
+pageOf Push = 15
+pageOf Pop = 15
+pageOf Swap = 15

@@ -1,0 +1,75 @@
+-- From a virtual address to a place in memory, or to a cause and its tval: steps 3 to 9, in their order.
+--
+-- Below, a is the address as the program gives it, t the transformed one, which is also tval, p the physical one, and
+-- len the number of bytes of memory.
+use mathlib.Core.Bool.{Bool, _&&_}
+use mathlib.Core.List.{List}
+use Prim.Native.Nat.{ℕ, _+_, _-_, _*_, _/_, _%_, _^_}
+use lib.Dec.{eqb, leb}
+use Rattle.isa.specs.declared.Width.{Width}
+use Rattle.isa.specs.Size.{sizeOf}
+use Rattle.word.specs.Choice.{pick}
+use Rattle.address.specs.Align.{alignedOf}
+use Rattle.address.specs.Cause.{misalignedOf, accessOf, pageOf}
+use Rattle.address.specs.Leaf.{isShadow, judgeOf, leafOf}
+use Rattle.address.specs.Map.{lookupOf}
+use Rattle.address.specs.Mask.{transformedOf}
+use Rattle.address.specs.declared.Kind.{Kind}
+use Rattle.address.specs.declared.Physical.{Physical}
+use Rattle.address.specs.declared.place.Place.{Place}
+use Rattle.address.specs.declared.place.Place.the-variants.{At, Fault}
+use Rattle.address.specs.declared.regime.Regime.{Regime}
+use Rattle.address.specs.declared.leaf.Verdict.{Verdict}
+use Rattle.address.specs.declared.leaf.Verdict.the-variants.{Granted, PageFault, AccessFault}
+use Rattle.address.specs.declared.map.Found.{Found}
+use Rattle.address.specs.declared.map.Found.the-variants.{Leaf, Absent}
+
+-- memory's first byte has physical address 0x80000000
+unfoldable pub withinOf : (len p n : ℕ) → Bool
+withinOf len p n = leb 0x80000000 p && leb (p + n) (0x80000000 + len)
+
+-- step 9: a byte outside memory is an access fault
+unfoldable pub insideOf : Kind → Width → (len p t : ℕ) → Place
+insideOf k w len p t = pick (withinOf len p (sizeOf w)) (At (record { 0 = p })) (Fault (accessOf k) t)
+
+-- step 5: bits 63:39 must equal bit 38
+abbrev pub canonicalOf : ℕ → Bool
+canonicalOf t = eqb (t / 2 ^ 39) (t / 2 ^ 38 % 2 * (2 ^ 25 - 1))
+
+-- the page number of an address
+abbrev pub pageNumber : ℕ → ℕ
+pageNumber t = t / 4096 % 2 ^ 27
+
+-- the frame number is in bits 53:10 of the leaf word; the offset is the address's
+abbrev pub framed : (e t : ℕ) → ℕ
+framed e t = e / 2 ^ 10 % 2 ^ 44 * 4096 + t % 4096
+
+unfoldable pub settleOf : Verdict → Kind → Width → (len p t : ℕ) → Place
+settleOf Granted k w len p t = insideOf k w len p t
+settleOf PageFault k w len p t = Fault (pageOf k) t
+settleOf AccessFault k w len p t = Fault (accessOf k) t
+
+-- step 5: page fault if no entry has this page number; else steps 5 to 9 at its leaf
+unfoldable pub throughOf : Found → Regime → Kind → Width → (len t : ℕ) → Place
+throughOf Absent g k w len t = Fault (pageOf k) t
+throughOf (Leaf e) g k w len t = settleOf (judgeOf g k (leafOf e)) k w len (framed e t) t
+
+-- steps 5 to 9, under Sv39
+unfoldable pub pagedPlaceOf : Regime → Kind → Width → (t : ℕ) → (map : List ℕ) → (len : ℕ) → Place
+pagedPlaceOf g k w t map len =
+    pick (canonicalOf t) (throughOf (lookupOf map (pageNumber t)) g k w len t) (Fault (pageOf k) t)
+
+-- step 4, a shadow access in M or Bare is cause 7, and step 9
+unfoldable pub plainPlaceOf : Kind → Width → (t len : ℕ) → Place
+plainPlaceOf k w t len = pick (isShadow k) (Fault 7 t) (insideOf k w len t t)
+
+-- steps 3 to 9, of the transformed address
+unfoldable pub reachedOf : Regime → Kind → Width → (t : ℕ) → (map : List ℕ) → (len : ℕ) → Place
+reachedOf g k w t map len =
+    pick (alignedOf w t)
+    (pick (g .paged) (pagedPlaceOf g k w t map len) (plainPlaceOf k w t len))
+    (Fault (misalignedOf k) t)
+
+-- steps 2 to 9
+unfoldable pub placeOf : Regime → Kind → Width → (a : ℕ) → (map : List ℕ) → (len : ℕ) → Place
+placeOf g k w a map len = reachedOf g k w (transformedOf g k a) map len

@@ -1,0 +1,51 @@
+-- Step 1, and which PMM counts.
+use mathlib.Core.Bool.{Bool, true, false}
+use Prim.Native.Nat.{ℕ}
+use Rattle.address.specs.declared.regime.Control.{Control}
+use Rattle.address.specs.declared.Kind.{Kind}
+use Rattle.address.specs.declared.Kind.the-variants.{Fetch, Load, Store, Push, Pop, Swap}
+use Rattle.address.specs.declared.Mode.{Mode}
+use Rattle.address.specs.declared.Mode.the-variants.{User, Supervisor, Machine}
+use Rattle.address.specs.declared.regime.Regime.{Regime}
+use Rattle.word.specs.Choice.{pick}
+
+-- in M with MPRV set, MPP
+abbrev pub underMprv : (mode : Mode) → (mprv : Bool) → (mpp : Mode) → Mode
+underMprv User mprv mpp = User
+underMprv Supervisor mprv mpp = Supervisor
+underMprv Machine mprv mpp = pick mprv mpp Machine
+
+-- step 1: the current mode; for loads, stores and swaps in M with MPRV set, MPP
+abbrev pub effectiveOf : Kind → (mode : Mode) → (mprv : Bool) → (mpp : Mode) → Mode
+effectiveOf Fetch mode mprv mpp = mode
+effectiveOf Load mode mprv mpp = underMprv mode mprv mpp
+effectiveOf Store mode mprv mpp = underMprv mode mprv mpp
+effectiveOf Push mode mprv mpp = mode
+effectiveOf Pop mode mprv mpp = mode
+effectiveOf Swap mode mprv mpp = underMprv mode mprv mpp
+
+-- step 2: the PMM of the effective mode is that of senvcfg, menvcfg or mseccfg
+abbrev pub pmmOf : Mode → (senvcfg menvcfg mseccfg : ℕ) → ℕ
+pmmOf User senvcfg menvcfg mseccfg = senvcfg
+pmmOf Supervisor senvcfg menvcfg mseccfg = menvcfg
+pmmOf Machine senvcfg menvcfg mseccfg = mseccfg
+
+-- M has no pages
+abbrev pub pagedOf : Mode → (sv39 : Bool) → Bool
+pagedOf User sv39 = sv39
+pagedOf Supervisor sv39 = sv39
+pagedOf Machine sv39 = false
+
+abbrev pub modeOf : Control → Kind → Mode
+modeOf c k = effectiveOf k (c .mode) (c .mprv) (c .mpp)
+
+-- what an access of this kind is judged by
+unfoldable pub regimeOf : Control → Kind → Regime
+regimeOf c k = record {
+  mode = modeOf c k;
+  paged = pagedOf (modeOf c k) (c .sv39);
+  pmm = pmmOf (modeOf c k) (c .upmm) (c .spmm) (c .mpmm);
+  sum = c .sum;
+  mxr = c .mxr;
+  sse = c .sse;
+}

@@ -1,0 +1,44 @@
+// The causes of an access's faults, by its kind.
+use super::Kind;
+ghost use mathlib.Core.Path.{_≡_};
+ghost use Rattle.address.specs.Cause.{misalignedOf, accessOf, pageOf};
+
+// Also a jump target's, which is a fetch to come.
+pub fn misaligned(k: Kind) -> u64
+    ensures { λ r. ⌜ r ≡ misalignedOf k ⌝ }
+{
+    match k {
+        Kind::Fetch => 0,
+        Kind::Load => 4,
+        Kind::Store => 6,
+        Kind::Push => 7,
+        Kind::Pop => 7,
+        Kind::Swap => 7,
+    }
+}
+
+pub fn access(k: Kind) -> u64
+    ensures { λ r. ⌜ r ≡ accessOf k ⌝ }
+{
+    match k {
+        Kind::Fetch => 1,
+        Kind::Load => 5,
+        Kind::Store => 7,
+        Kind::Push => 7,
+        Kind::Pop => 7,
+        Kind::Swap => 7,
+    }
+}
+
+pub fn page(k: Kind) -> u64
+    ensures { λ r. ⌜ r ≡ pageOf k ⌝ }
+{
+    match k {
+        Kind::Fetch => 12,
+        Kind::Load => 13,
+        Kind::Store => 15,
+        Kind::Push => 15,
+        Kind::Pop => 15,
+        Kind::Swap => 15,
+    }
+}

@@ -1,0 +1,59 @@
+// Step 2, masking: the one place that makes the transformed address.
+use super::Kind;
+use super::Virtual;
+use super::regime::Regime;
+ghost use mathlib.Core.Path.{_≡_};
+ghost use Prim.Native.Nat.{_^_, _<_, _≤_};
+ghost use Rattle.address.specs.Mask.{maskedBitsOf, maskOf, transformedOf};
+
+// The number of masked bits that a PMM means.
+fn masked_bits(pmm: u8) -> u64
+    ensures { λ r. ⌜ (r ≡ maskedBitsOf pmm) × (r ≤ 16) ⌝ }
+{
+    match pmm {
+        2 => 7,
+        3 => 16,
+        _ => 0,
+    }
+}
+
+fn power(k: u64) -> u64
+    requires { ⌜ k < 64 ⌝ }
+    ensures { λ r. ⌜ r ≡ 2 ^ k ⌝ }
+{
+    1u64 << k
+}
+
+// The address with its upper p bits zero, or under Sv39 copies of bit 63 - p.
+pub fn mask(p: u64, paged: bool, a: u64) -> u64
+    requires { ⌜ p < 64 ⌝ }
+    ensures { λ r. ⌜ r ≡ maskOf p paged a ⌝ }
+{
+    if p == 0 {
+        return a;
+    }
+    let m = power(64 - p);
+    let low = a % m;
+    if paged {
+        if a / power(63 - p) % 2 == 1 {
+            return low + (0xffff_ffff_ffff_ffff - (m - 1));
+        }
+    }
+    low
+}
+
+// A fetch is not masked.
+pub fn transform(g: Regime, k: Kind, a: Virtual) -> Virtual
+    ensures { λ r. ⌜ r .0 ≡ transformedOf g k (a .0) ⌝ }
+{
+    let v = a.0;
+    let masked = mask(masked_bits(g.pmm), g.paged, v);
+    match k {
+        Kind::Fetch => Virtual(v),
+        Kind::Load => Virtual(masked),
+        Kind::Store => Virtual(masked),
+        Kind::Push => Virtual(masked),
+        Kind::Pop => Virtual(masked),
+        Kind::Swap => Virtual(masked),
+    }
+}
