@@ -3,6 +3,9 @@
 // Nothing here knows a hart: `Control` is what a hart's mode and CSRs say about accesses, `Regime` what is
 // left of it for one access.
 
+ghost use mathlib.Core.Path.{_≡_};
+ghost use Prim.Native.Nat.{_-_, _≤_};
+
 // Step 1, and which PMM counts.
 pub mod regime;
 // Step 2.
@@ -21,8 +24,25 @@ pub mod cause;
 // An address as the program names it. A `Physical` is made from one by translation alone.
 pub struct Virtual(pub u64);
 
-// An address of memory, whose first byte has 0x80000000.
-pub struct Physical(pub u64);
+// An address of memory, whose first byte has 0x80000000. No other crate can make one.
+pub struct Physical(u64);
+
+impl Physical {
+    // The address as a number, for those who show it.
+    pub fn number(self) -> u64
+        ensures { λ r. ⌜ r ≡ self .0 ⌝ }
+    {
+        self.0
+    }
+
+    // Where in memory it stands: the index of its byte.
+    pub fn index(self) -> usize
+        requires { ⌜ 0x80000000 ≤ self .0 ⌝ }
+        ensures { λ r. ⌜ r ≡ self .0 - 0x80000000 ⌝ }
+    {
+        (self.0 - 0x8000_0000) as usize
+    }
+}
 
 // What an access is for.
 pub enum Kind {
