@@ -9,7 +9,7 @@ use native.Mathlib.Omega.{arith}
 use lib.Dec.{eqb, leb, ltb}
 use lib.ListN.{length, getD, drop, length-drop}
 use lib.Seq.{drop-cons}
-use borrow.Author.Tests.{eq-eqb, ne-eqb, le-leb, lt-leb, lt-ltb, le-ltb, leb-true, ltb-true}
+use borrow.Author.Tests.{eq-eqb, ne-eqb, le-leb, lt-leb, lt-ltb, le-ltb, ltb-false, leb-false}
 use Rattle.address.specs.Map.{lookupOf, pagesOf, anyLarge, riseFrom, strictlyRise, refusedOf}
 use Rattle.address.specs.declared.map.Found.{Found}
 use Rattle.address.specs.declared.map.Found.the-variants.{Leaf, Absent}
@@ -111,3 +111,76 @@ module _ (map : List ℕ) (i low : ℕ) where
       → wrongAt low (drop i map) ≡ wrongAt (getD map i 0 + 1) (drop (i + 2) map)
   unfolding wrongAt wrong pagesOf
   wrong-next h e g = rw (two map i h, le-ltb (getD map i 0) low e, lt-leb (2 ^ 27) (getD map i 0) g)
+
+-- an accepted map
+
+neither : (a b : Bool) → a || b ≡ false → (a ≡ false) × (b ≡ false)
+neither true b h = (h, cc)
+neither false b h = (refl, h)
+
+unpack : (low k e : ℕ) (rest : List ℕ) → wrongAt low (k ∷ e ∷ rest) ≡ false
+    → (low ≤ k) × (k < 2 ^ 27) × (wrongAt (k + 1) rest ≡ false)
+unfolding wrongAt wrong pagesOf
+unpack low k e rest h =
+    let q = neither (ltb k low) (leb (2 ^ 27) k || wrong (k + 1) (pagesOf rest)) h in
+    let r = neither (leb (2 ^ 27) k) (wrong (k + 1) (pagesOf rest)) (q .1) in
+    (ltb-false k low (q .0), leb-false (2 ^ 27) k (r .0), r .1)
+
+double : (i : ℕ) → 2 * suc i ≡ suc (suc (2 * i))
+double i = omega arith
+
+bounded : (low : ℕ) (map : List ℕ) → wrongAt low map ≡ false
+    → (i : ℕ) → 2 * i + 2 ≤ length map → (low ≤ getD map (2 * i) 0) × (getD map (2 * i) 0 < 2 ^ 27)
+bounded low [] h i p = absurd (omega arith)
+bounded low (k ∷ []) h i p = absurd (omega arith)
+bounded low (k ∷ e ∷ rest) h zero p =
+    let q = unpack low k e rest h in
+    (q .0, q .1)
+bounded low (k ∷ e ∷ rest) h (suc i) p =
+    let q = unpack low k e rest h in
+    let s = bounded (k + 1) rest (q .2) i (omega arith) in
+    rw double (omega arith, s .1)
+
+rises : (low : ℕ) (map : List ℕ) → wrongAt low map ≡ false
+    → (i j : ℕ) → i < j → 2 * j + 2 ≤ length map → getD map (2 * i) 0 < getD map (2 * j) 0
+rises low [] h i j l p = absurd (omega arith)
+rises low (k ∷ []) h i j l p = absurd (omega arith)
+rises low (k ∷ e ∷ rest) h i zero l p = absurd (omega arith)
+rises low (k ∷ e ∷ rest) h zero (suc j) l p =
+    rw (double j) (omega (arith, bounded (k + 1) rest (unpack low k e rest h .2) j (omega arith) .0))
+rises low (k ∷ e ∷ rest) h (suc i) (suc j) l p =
+    rw (double i, double j) (rises (k + 1) rest (unpack low k e rest h .2) i j (omega arith) (omega arith))
+
+finds : (low : ℕ) (map : List ℕ) → wrongAt low map ≡ false
+    → (i : ℕ) → 2 * i + 2 ≤ length map → lookupOf map (getD map (2 * i) 0) ≡ Leaf (getD map (suc (2 * i)) 0)
+unfolding lookupOf
+finds low [] h i p = absurd (omega arith)
+finds low (k ∷ []) h i p = absurd (omega arith)
+finds low (k ∷ e ∷ rest) h zero p = rw (eq-eqb k k refl)
+finds low (k ∷ e ∷ rest) h (suc i) p =
+    let q = unpack low k e rest h in
+    let b = bounded (k + 1) rest (q .2) i (omega arith) in
+    rw (double i, ne-eqb k (getD rest (2 * i) 0) (λ s. omega arith)) (finds (k + 1) rest (q .2) i (omega arith))
+
+module _ (map : List ℕ) (ok : refusedOf map ≡ false) where
+  right : wrongAt 0 map ≡ false
+  unfolding refusedOf wrongAt
+  right =
+      let q = neither (eqb (length map % 2) 1) _ ok in
+      let r = neither (ltb 128 (length map)) _ (q .1) in
+      sym (wrong-all (pagesOf map)) ∙ r .1
+
+  -- its page numbers are below 2 ^ 27
+  pub page-below : (i : ℕ) → 2 * i + 2 ≤ length map → getD map (2 * i) 0 < 2 ^ 27
+  page-below i p = bounded 0 map right i p .1
+
+  -- each page number stands once
+  pub page-once : (i j : ℕ) → 2 * i + 2 ≤ length map → 2 * j + 2 ≤ length map
+      → getD map (2 * i) 0 ≡ getD map (2 * j) 0 → i ≡ j
+  page-once i j p q e =
+      either i j (λ l. absurd (omega (arith, rises 0 map right i j l q)))
+      (λ l. either j i (λ m. absurd (omega (arith, rises 0 map right j i m p))) (λ m. omega arith))
+
+  -- so lookup finds each entry
+  pub entry-found : (i : ℕ) → 2 * i + 2 ≤ length map → lookupOf map (getD map (2 * i) 0) ≡ Leaf (getD map (suc (2 * i)) 0)
+  entry-found i p = finds 0 map right i p

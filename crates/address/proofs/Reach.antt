@@ -1,0 +1,189 @@
+-- What a place says of the access that it was given to: the laws that a step needs.
+-- Assumes nothing.
+use mathlib.Core.Path.{_≡_, refl, sym, _∙_, subst}
+use mathlib.Core.Bool.{Bool, true, false, _&&_}
+use mathlib.Core.List.{List}
+use Prim.Native.Nat.{ℕ, _+_, _/_, _%_, _^_, _<_, _≤_}
+use native.Mathlib.Omega.{arith}
+use lib.Dec.{eqb, leb}
+use borrow.Author.Tests.{leb-true, eqb-true}
+use Rattle.isa.specs.Size.{sizeOf}
+use Rattle.isa.specs.declared.Width.{Width}
+use Rattle.isa.specs.declared.Width.the-variants.{Byte, Half, Word, Double}
+use Rattle.word.proofs.Choices.{first, second}
+use Rattle.word.specs.Choice.{pick}
+use Rattle.address.proofs.Grants.{store-elsewhere, shadow-there}
+use Rattle.address.specs.Align.{alignedOf}
+use Rattle.address.specs.Cause.{misalignedOf, accessOf, pageOf}
+use Rattle.address.specs.Leaf.{isShadow, leafOf, shadowPage, judgeOf}
+use Rattle.address.specs.Map.{lookupOf}
+use Rattle.address.specs.Mask.{transformedOf}
+use Rattle.address.specs.Place.{withinOf, insideOf, canonicalOf, pageNumber, framed, settleOf, throughOf, pagedPlaceOf, plainPlaceOf, reachedOf, placeOf}
+use Rattle.address.specs.declared.Kind.{Kind}
+use Rattle.address.specs.declared.Kind.the-variants.{Store}
+use Rattle.address.specs.declared.Physical.{Physical}
+use Rattle.address.specs.declared.place.Place.{Place}
+use Rattle.address.specs.declared.place.Place.the-variants.{At, Fault}
+use Rattle.address.specs.declared.leaf.Verdict.{Verdict}
+use Rattle.address.specs.declared.leaf.Verdict.the-variants.{Granted, PageFault, AccessFault}
+use Rattle.address.specs.declared.map.Found.{Found}
+use Rattle.address.specs.declared.map.Found.the-variants.{Leaf, Absent}
+use Rattle.address.specs.declared.regime.Regime.{Regime}
+
+-- a fault is no place
+never : {A : Type 0} (c t : ℕ) (q : Physical) → Fault c t ≡ At q → A
+never c t q e = absurd (let z : _≡_ {A = ℕ} 0 1 = cc in omega arith)
+
+behind : (b : Bool) (rest : Place) (c t : ℕ) (q : Physical) → pick b rest (Fault c t) ≡ At q → (b ≡ true) × (rest ≡ At q)
+behind true rest c t q e = (refl, e)
+behind false rest c t q e = never c t q e
+
+both : (a b : Bool) → a && b ≡ true → (a ≡ true) × (b ≡ true)
+both true b h = (refl, h)
+both false b h = (h, cc)
+
+-- all bytes of the access lie in memory
+abbrev pub Within : ℕ → Width → Physical → Type 0
+Within len w q = (0x80000000 ≤ q .0) × (q .0 + sizeOf w ≤ 0x80000000 + len)
+
+-- an access through a page: the leaf that granted it, and where it leads
+pub record Paged (g : Regime) (k : Kind) (w : Width) (t : ℕ) (map : List ℕ) (len : ℕ) (q : Physical) : Type 0 where
+  pub leaf : ℕ
+  pub canonical : canonicalOf t ≡ true
+  pub entry : lookupOf map (pageNumber t) ≡ Leaf leaf
+  pub granted : judgeOf g k (leafOf leaf) ≡ Granted
+  pub frame : q .0 ≡ framed leaf t
+  pub within : Within len w q
+
+-- an access in M or Bare
+pub record Plain (k : Kind) (w : Width) (t len : ℕ) (q : Physical) : Type 0 where
+  pub ordinary : isShadow k ≡ false
+  pub same : q .0 ≡ t
+  pub within : Within len w q
+
+module _ (k : Kind) (w : Width) (len : ℕ) (q : Physical) where
+  inside-at : (p t : ℕ) → insideOf k w len p t ≡ At q → (q .0 ≡ p) × Within len w q
+  unfolding insideOf withinOf
+  inside-at p t e =
+      let (b, f) = behind (withinOf len p (sizeOf w)) (At (record { 0 = p })) (accessOf k) t q e in
+      let (l, u) = both (leb 0x80000000 p) (leb (p + sizeOf w) (0x80000000 + len)) b in
+      let x : p ≡ q .0 = cc in
+      (sym x, (rw (← x) (leb-true 0x80000000 p l), rw (← x) (leb-true (p + sizeOf w) (0x80000000 + len) u)))
+
+  settle-at : (v : Verdict) (p t : ℕ) → settleOf v k w len p t ≡ At q → (v ≡ Granted) × (q .0 ≡ p) × Within len w q
+  unfolding settleOf
+  settle-at Granted p t e =
+      let (s, i) = inside-at p t e in
+      (refl, s, i)
+  settle-at PageFault p t e = never (pageOf k) t q e
+  settle-at AccessFault p t e = never (accessOf k) t q e
+
+  through-at : (g : Regime) (t : ℕ) (map : List ℕ) (f : Found) → canonicalOf t ≡ true → lookupOf map (pageNumber t) ≡ f
+      → throughOf f g k w len t ≡ At q → Paged g k w t map len q
+  unfolding throughOf
+  through-at g t map Absent c s e = never (pageOf k) t q e
+  through-at g t map (Leaf l) c s e =
+      let (v, p, i) = settle-at (judgeOf g k (leafOf l)) (framed l t) t e in
+      record { leaf = l; canonical = c; entry = s; granted = v; frame = p; within = i }
+
+  paged-at : (g : Regime) (t : ℕ) (map : List ℕ) → pagedPlaceOf g k w t map len ≡ At q → Paged g k w t map len q
+  unfolding pagedPlaceOf
+  paged-at g t map e =
+      let (c, f) = behind (canonicalOf t) (throughOf (lookupOf map (pageNumber t)) g k w len t) (pageOf k) t q e in
+      through-at g t map (lookupOf map (pageNumber t)) c refl f
+
+  plain-at : (t : ℕ) → plainPlaceOf k w t len ≡ At q → Plain k w t len q
+  unfolding plainPlaceOf
+  plain-at t = go (isShadow k) refl
+    where
+      go : (b : Bool) → isShadow k ≡ b → pick b (Fault 7 t) (insideOf k w len t t) ≡ At q → Plain k w t len q
+      go true s e = never 7 t q e
+      go false s e =
+          let (p, i) = inside-at t t e in
+          record { ordinary = s; same = p; within = i }
+
+-- an aligned access never leaves its page
+pub in-page : (w : Width) (t : ℕ) → t % sizeOf w ≡ 0 → t % 4096 + sizeOf w ≤ 4096
+in-page Byte t h = omega arith
+in-page Half t h = omega arith
+in-page Word t h = omega arith
+in-page Double t h = omega arith
+
+module _ (g : Regime) (k : Kind) (w : Width) (a : ℕ) (map : List ℕ) (len : ℕ) (q : Physical) (at : placeOf g k w a map len ≡ At q) where
+  abbrev t : ℕ
+  t = transformedOf g k a
+
+  reached : (alignedOf w t ≡ true) × (pick (g .paged) (pagedPlaceOf g k w t map len) (plainPlaceOf k w t len) ≡ At q)
+  unfolding placeOf reachedOf
+  reached =
+      behind (alignedOf w t) (pick (g .paged) (pagedPlaceOf g k w t map len) (plainPlaceOf k w t len)) (misalignedOf k) t q at
+
+  -- a place is given only to an aligned access
+  pub place-aligned : t % sizeOf w ≡ 0
+  unfolding alignedOf
+  place-aligned = eqb-true (t % sizeOf w) 0 (reached .0)
+
+  pub place-paged : g .paged ≡ true → Paged g k w t map len q
+  place-paged p = paged-at k w len q g t map (sym (first (g .paged) (pagedPlaceOf g k w t map len) (plainPlaceOf k w t len) p) ∙ reached .1)
+
+  pub place-plain : g .paged ≡ false → Plain k w t len q
+  place-plain p = plain-at k w len q t (sym (second (g .paged) (pagedPlaceOf g k w t map len) (plainPlaceOf k w t len) p) ∙ reached .1)
+
+  -- a place is given only where all bytes of the access lie in memory
+  pub place-within : Within len w q
+  place-within = go (g .paged) refl
+    where
+      go : (b : Bool) → g .paged ≡ b → Within len w q
+      go true p = place-paged p .within
+      go false p = place-plain p .within
+
+  -- translation keeps the offset in the page
+  pub place-offset : q .0 % 4096 ≡ t % 4096
+  place-offset = go (g .paged) refl
+    where
+      go : (b : Bool) → g .paged ≡ b → q .0 % 4096 ≡ t % 4096
+      go true p = rw (place-paged p .frame) (omega arith)
+      go false p = rw (place-plain p .same)
+
+  -- a granted access never leaves its page, neither the virtual one nor the physical one
+  pub place-in-page : (t % 4096 + sizeOf w ≤ 4096) × (q .0 % 4096 + sizeOf w ≤ 4096)
+  place-in-page =
+      let p = in-page w t place-aligned in
+      (p, rw place-offset p)
+
+-- an ordinary store is never given a place on a shadow page
+pub store-off-shadow : (g : Regime) (w : Width) (a : ℕ) (map : List ℕ) (len : ℕ) (q : Physical) → placeOf g Store w a map len ≡ At q
+    → g .paged ≡ true
+    → (e : ℕ) → lookupOf map (pageNumber (transformedOf g Store a)) ≡ Leaf e → shadowPage (g .sse) (leafOf e) ≡ false
+store-off-shadow g w a map len q at p e found =
+    let P = place-paged g Store w a map len q at p in
+    let s : P .leaf ≡ e = same-leaf (P .leaf) e (sym (P .entry) ∙ found) in
+    store-elsewhere g (leafOf e) (subst (λ (x : ℕ). judgeOf g Store (leafOf x) ≡ Granted) s (P .granted))
+  where
+    same-leaf : (x y : ℕ) → Leaf x ≡ Leaf y → x ≡ y
+    same-leaf x y h = cc
+
+-- a shadow access is given a place on a shadow page alone
+pub shadow-on-shadow : (g : Regime) (k : Kind) (w : Width) (a : ℕ) (map : List ℕ) (len : ℕ) (q : Physical) → isShadow k ≡ true
+    → (at : placeOf g k w a map len ≡ At q) → (p : g .paged ≡ true)
+    → shadowPage (g .sse) (leafOf (place-paged g k w a map len q at p .leaf)) ≡ true
+shadow-on-shadow g k w a map len q s at p =
+    shadow-there g (leafOf (place-paged g k w a map len q at p .leaf)) k s (place-paged g k w a map len q at p .granted)
+
+-- and under Sv39 alone
+pub shadow-paged : (g : Regime) (k : Kind) (w : Width) (a : ℕ) (map : List ℕ) (len : ℕ) (q : Physical) → isShadow k ≡ true
+    → placeOf g k w a map len ≡ At q → g .paged ≡ true
+shadow-paged g k w a map len q s at = go (g .paged) refl
+  where
+    go : (b : Bool) → g .paged ≡ b → g .paged ≡ true
+    go true p = p
+    go false p =
+        let n : false ≡ true = sym (place-plain g k w a map len q at p .ordinary) ∙ s in
+        cc
+
+-- the map counts through the one leaf only
+pub one-leaf : (g : Regime) (k : Kind) (w : Width) (a : ℕ) (map other : List ℕ) (len : ℕ)
+    → lookupOf map (pageNumber (transformedOf g k a)) ≡ lookupOf other (pageNumber (transformedOf g k a))
+    → placeOf g k w a map len ≡ placeOf g k w a other len
+unfolding placeOf reachedOf pagedPlaceOf
+one-leaf g k w a map other len e = rw e
