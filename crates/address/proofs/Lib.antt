@@ -1,5 +1,4 @@
 -- The laws of "From address to byte" that belong to no one function.
 pub mod Masking
-pub mod Entries
-pub mod Grants
 pub mod Reach
+pub mod Rows

@@ -12,23 +12,23 @@ use Rattle.isa.specs.declared.Width.{Width}
 use Rattle.isa.specs.declared.Width.the-variants.{Byte, Half, Word, Double}
 use Rattle.word.proofs.Choices.{first, second}
 use Rattle.word.specs.Choice.{pick}
-use Rattle.address.proofs.Grants.{store-elsewhere, shadow-there}
+use Rattle.page.proofs.Grants.{store-elsewhere, shadow-there}
 use Rattle.address.specs.Align.{alignedOf}
 use Rattle.address.specs.Cause.{misalignedOf, accessOf, pageOf}
-use Rattle.address.specs.Leaf.{isShadow, leafOf, shadowPage, judgeOf}
-use Rattle.address.specs.Map.{lookupOf}
+use Rattle.page.specs.Leaf.{isShadow, leafOf, shadowPage, judgeOf}
+use Rattle.page.specs.Map.{lookupOf}
 use Rattle.address.specs.Mask.{transformedOf}
 use Rattle.address.specs.Place.{withinOf, insideOf, canonicalOf, pageNumber, framed, settleOf, throughOf, pagedPlaceOf, plainPlaceOf, reachedOf, placeOf}
-use Rattle.address.specs.declared.Kind.{Kind}
-use Rattle.address.specs.declared.Kind.the-variants.{Store}
+use Rattle.page.specs.declared.Kind.{Kind}
+use Rattle.page.specs.declared.Kind.the-variants.{Store}
 use Rattle.address.specs.declared.Physical.{Physical}
 use Rattle.address.specs.declared.place.Place.{Place}
 use Rattle.address.specs.declared.place.Place.the-variants.{At, Fault}
-use Rattle.address.specs.declared.leaf.Verdict.{Verdict}
-use Rattle.address.specs.declared.leaf.Verdict.the-variants.{Granted, PageFault, AccessFault}
-use Rattle.address.specs.declared.map.Found.{Found}
-use Rattle.address.specs.declared.map.Found.the-variants.{Leaf, Absent}
-use Rattle.address.specs.declared.regime.Regime.{Regime}
+use Rattle.page.specs.declared.leaf.Verdict.{Verdict}
+use Rattle.page.specs.declared.leaf.Verdict.the-variants.{Granted, PageFault, AccessFault}
+use Rattle.page.specs.declared.map.Found.{Found}
+use Rattle.page.specs.declared.map.Found.the-variants.{Leaf, Absent}
+use Rattle.page.specs.declared.Regime.{Regime}
 
 -- a fault is no place
 never : {A : Type 0} (c t : ℕ) (q : Physical) → Fault c t ≡ At q → A

@@ -1,7 +1,6 @@
 pub mod Regime
 pub mod Mask
 pub mod Align
+pub mod Stack
 pub mod Cause
-pub mod Map
-pub mod Leaf
 pub mod Place

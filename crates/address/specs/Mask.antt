@@ -1,9 +1,9 @@
 -- Step 2, masking, over the number of masked bits.
 use mathlib.Core.Bool.{Bool}
 use Prim.Native.Nat.{ℕ, _-_, _%_, _^_}
-use Rattle.address.specs.declared.Kind.{Kind}
-use Rattle.address.specs.declared.Kind.the-variants.{Fetch, Load, Store, Push, Pop, Swap}
-use Rattle.address.specs.declared.regime.Regime.{Regime}
+use Rattle.page.specs.declared.Kind.{Kind}
+use Rattle.page.specs.declared.Kind.the-variants.{Fetch, Load, Store, Push, Pop, Swap}
+use Rattle.page.specs.declared.Regime.{Regime}
 use Rattle.word.specs.Choice.{pick, Table, _⇒_¦_, otherwise, look}
 use Rattle.word.specs.Sign.{signExtendOf}
 

@@ -2,11 +2,11 @@
 use mathlib.Core.Bool.{Bool, true, false}
 use Prim.Native.Nat.{ℕ}
 use Rattle.address.specs.declared.regime.Control.{Control}
-use Rattle.address.specs.declared.Kind.{Kind}
-use Rattle.address.specs.declared.Kind.the-variants.{Fetch, Load, Store, Push, Pop, Swap}
-use Rattle.address.specs.declared.Mode.{Mode}
-use Rattle.address.specs.declared.Mode.the-variants.{User, Supervisor, Machine}
-use Rattle.address.specs.declared.regime.Regime.{Regime}
+use Rattle.page.specs.declared.Kind.{Kind}
+use Rattle.page.specs.declared.Kind.the-variants.{Fetch, Load, Store, Push, Pop, Swap}
+use Rattle.page.specs.declared.Mode.{Mode}
+use Rattle.page.specs.declared.Mode.the-variants.{User, Supervisor, Machine}
+use Rattle.page.specs.declared.Regime.{Regime}
 use Rattle.word.specs.Choice.{pick}
 
 -- in M with MPRV set, MPP

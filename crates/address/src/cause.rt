@@ -1,5 +1,5 @@
 // The causes of an access's faults, by its kind.
-use super::Kind;
+use page::Kind;
 ghost use mathlib.Core.Path.{_≡_};
 ghost use Rattle.address.specs.Cause.{misalignedOf, accessOf, pageOf};
 

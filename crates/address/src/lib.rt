@@ -12,10 +12,8 @@ pub mod regime;
 pub mod mask;
 // Step 3.
 pub mod align;
-// The page map: lookup of a page number, and refusal 3.
-pub mod map;
-// Steps 5 to 8: what a leaf lets an access do.
-pub mod leaf;
+// Where a push goes.
+pub mod stack;
 // Steps 3 to 9 in their order.
 pub mod place;
 // The causes of faults.
@@ -42,20 +40,4 @@ impl Physical {
     {
         (self.0 - 0x8000_0000) as usize
     }
-}
-
-// What an access is for.
-pub enum Kind {
-    Fetch,
-    Load,
-    Store,
-    Push,
-    Pop,
-    Swap,
-}
-
-pub enum Mode {
-    User,
-    Supervisor,
-    Machine,
 }

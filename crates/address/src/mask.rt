@@ -1,7 +1,7 @@
 // Step 2, masking: the one place that makes the transformed address.
-use super::Kind;
 use super::Virtual;
-use super::regime::Regime;
+use page::Kind;
+use page::Regime;
 ghost use mathlib.Core.Path.{_≡_};
 ghost use Prim.Native.Nat.{_^_, _<_, _≤_};
 ghost use Rattle.address.specs.Mask.{maskedBitsOf, maskOf, transformedOf};
@@ -26,7 +26,7 @@ fn power(k: u64) -> u64
 
 // The address with its upper p bits zero, or under Sv39 copies of bit 63 - p.
 pub fn mask(p: u64, paged: bool, a: u64) -> u64
-    requires { ⌜ p < 64 ⌝ }
+    requires { ⌜ p ≤ 16 ⌝ }
     ensures { λ r. ⌜ r ≡ maskOf p paged a ⌝ }
 {
     if p == 0 {

@@ -1,17 +1,17 @@
 // Steps 3 to 9 in their order: from a virtual address to a place in memory, or to a cause and its tval.
-use super::Kind;
 use super::Physical;
 use super::Virtual;
 use super::align;
 use super::cause;
-use super::leaf;
-use super::leaf::Verdict;
-use super::map;
-use super::map::Found;
 use super::mask;
-use super::regime::Regime;
 use isa::Width;
 use isa::size;
+use page::Kind;
+use page::Regime;
+use page::leaf;
+use page::leaf::Verdict;
+use page::map;
+use page::map::Found;
 ghost use mathlib.Core.Path.{_≡_};
 ghost use Prim.Native.Nat.{_^_, _≤_};
 ghost use Rattle.isa.specs.Size.{sizeOf};

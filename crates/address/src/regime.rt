@@ -1,6 +1,7 @@
 // Step 1, the effective mode of an access, and which PMM counts (the first sentence of step 2).
-use super::Kind;
-use super::Mode;
+use page::Kind;
+use page::Mode;
+use page::Regime;
 ghost use mathlib.Core.Path.{_≡_};
 ghost use Rattle.address.specs.Regime.{effectiveOf, underMprv, pmmOf, pagedOf, regimeOf};
 
@@ -17,17 +18,6 @@ pub struct Control {
     pub upmm: u8,
     pub spmm: u8,
     pub mpmm: u8,
-}
-
-// What one access is judged by: the effective mode and its PMM. `paged` says that Sv39 is in force, so it
-// is false in M.
-pub struct Regime {
-    pub mode: Mode,
-    pub paged: bool,
-    pub pmm: u8,
-    pub sum: bool,
-    pub mxr: bool,
-    pub sse: bool,
 }
 
 // MPRV counts in M alone.

@@ -1,0 +1,7 @@
+-- Where a push goes.
+use Prim.Native.Nat.{ℕ}
+use Rattle.word.specs.Sum.{differenceOf}
+
+-- push: store 8 bytes at ssp − 8, wrapping
+abbrev pub pushOf : ℕ → ℕ
+pushOf ssp = differenceOf ssp 8

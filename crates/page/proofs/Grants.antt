@@ -1,0 +1,64 @@
+-- What a granted access says of its leaf.
+-- Assumes nothing.
+use mathlib.Core.Path.{_≡_, refl}
+use mathlib.Core.Bool.{Bool, true, false, not}
+use Prim.Native.Nat.{ℕ}
+use native.Mathlib.Omega.{arith}
+use Rattle.page.specs.Leaf.{isShadow, isFetch, writes, shadowPage, readOnly, hasRight, namesPage, userBit, spares, ownPage, readable, serves, marked, guard, judgeOf}
+use Rattle.page.specs.declared.Kind.{Kind}
+use Rattle.page.specs.declared.Kind.the-variants.{Fetch, Load, Store, Push, Pop, Swap}
+use Rattle.page.specs.declared.leaf.Leaf.{Leaf}
+use Rattle.page.specs.declared.leaf.Verdict.{Verdict}
+use Rattle.page.specs.declared.leaf.Verdict.the-variants.{Granted, PageFault, AccessFault}
+use Rattle.page.specs.declared.Regime.{Regime}
+
+behind-page : (b : Bool) (rest : Verdict) → guard b PageFault rest ≡ Granted → (b ≡ true) × (rest ≡ Granted)
+behind-page true rest e = (refl, e)
+behind-page false rest e = absurd (let z : _≡_ {A = ℕ} 0 1 = cc in omega arith)
+
+behind-access : (b : Bool) (rest : Verdict) → guard b AccessFault rest ≡ Granted → (b ≡ true) × (rest ≡ Granted)
+behind-access true rest e = (refl, e)
+behind-access false rest e = absurd (let z : _≡_ {A = ℕ} 0 1 = cc in omega arith)
+
+-- every test of steps 5 to 8 held
+pub record Held (g : Regime) (k : Kind) (l : Leaf) : Type 0 where
+  pub names : namesPage (hasRight l) (shadowPage (g .sse) l) l ≡ true
+  pub user : userBit (g .mode) (g .sum) (isFetch k) (l .u) ≡ true
+  pub spared : spares (isShadow k) (readOnly l) ≡ true
+  pub own : ownPage k (shadowPage (g .sse) l) ≡ true
+  pub served : serves k (readable (g .mxr) (shadowPage (g .sse) l) l) l ≡ true
+  pub marks : marked (writes k) l ≡ true
+
+module _ (g : Regime) (l : Leaf) where
+  pub held : (k : Kind) → judgeOf g k l ≡ Granted → Held g k l
+  unfolding judgeOf
+  held k e =
+      let (a, e1) = behind-page (namesPage (hasRight l) (shadowPage (g .sse) l) l) _ e in
+      let (b, e2) = behind-page (userBit (g .mode) (g .sum) (isFetch k) (l .u)) _ e1 in
+      let (c, e3) = behind-page (spares (isShadow k) (readOnly l)) _ e2 in
+      let (d, e4) = behind-access (ownPage k (shadowPage (g .sse) l)) _ e3 in
+      let (f, e5) = behind-page (serves k (readable (g .mxr) (shadowPage (g .sse) l) l) l) _ e4 in
+      let (h, e6) = behind-page (marked (writes k) l) _ e5 in
+      record { names = a; user = b; spared = c; own = d; served = f; marks = h }
+
+  -- and where all hold, the access is granted
+  pub granted : (k : Kind) → Held g k l → judgeOf g k l ≡ Granted
+  unfolding judgeOf
+  granted k h = rw (h .names, h .user, h .spared, h .own, h .served, h .marks)
+
+  -- an ordinary store is never granted on a shadow page
+  pub store-elsewhere : judgeOf g Store l ≡ Granted → shadowPage (g .sse) l ≡ false
+  store-elsewhere e = flipped (shadowPage (g .sse) l) (held Store e .own)
+    where
+      flipped : (b : Bool) → not b ≡ true → b ≡ false
+      flipped true h = cc
+      flipped false h = refl
+
+  -- a shadow access is granted on a shadow page alone
+  pub shadow-there : (k : Kind) → isShadow k ≡ true → judgeOf g k l ≡ Granted → shadowPage (g .sse) l ≡ true
+  shadow-there Fetch s e = cc
+  shadow-there Load s e = cc
+  shadow-there Store s e = cc
+  shadow-there Push s e = held Push e .own
+  shadow-there Pop s e = held Pop e .own
+  shadow-there Swap s e = held Swap e .own

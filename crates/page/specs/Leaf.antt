@@ -1,0 +1,129 @@
+-- What an Sv39 leaf lets an access do: steps 5 to 8, in their order.
+use mathlib.Core.Bool.{Bool, true, false, _&&_, _||_, not}
+use Prim.Native.Nat.{ℕ, _/_, _%_, _^_}
+use lib.Dec.{eqb}
+use Rattle.page.specs.declared.Kind.{Kind}
+use Rattle.page.specs.declared.Kind.the-variants.{Fetch, Load, Store, Push, Pop, Swap}
+use Rattle.page.specs.declared.Mode.{Mode}
+use Rattle.page.specs.declared.Mode.the-variants.{User, Supervisor, Machine}
+use Rattle.page.specs.declared.Regime.{Regime}
+use Rattle.page.specs.declared.leaf.Leaf.{Leaf}
+use Rattle.page.specs.declared.leaf.Verdict.{Verdict}
+use Rattle.page.specs.declared.leaf.Verdict.the-variants.{Granted, PageFault, AccessFault}
+
+abbrev pub isShadow : Kind → Bool
+isShadow Fetch = false
+isShadow Load = false
+isShadow Store = false
+isShadow Push = true
+isShadow Pop = true
+isShadow Swap = true
+
+abbrev pub isFetch : Kind → Bool
+isFetch Fetch = true
+isFetch Load = false
+isFetch Store = false
+isFetch Push = false
+isFetch Pop = false
+isFetch Swap = false
+
+abbrev pub writes : Kind → Bool
+writes Fetch = false
+writes Load = false
+writes Store = true
+writes Push = true
+writes Pop = false
+writes Swap = true
+
+-- bit k of a word
+abbrev pub bitOf : ℕ → ℕ → Bool
+bitOf e k = eqb (e / 2 ^ k % 2) 1
+
+-- V, R, W, X, U, G, A, D in bits 0 to 7; `clear` says that bits 63:54 are 0
+abbrev pub leafOf : ℕ → Leaf
+leafOf e = record {
+  v = eqb (e % 2) 1;
+  r = bitOf e 1;
+  w = bitOf e 2;
+  x = bitOf e 3;
+  u = bitOf e 4;
+  a = bitOf e 6;
+  d = bitOf e 7;
+  clear = eqb (e / 2 ^ 54) 0;
+}
+
+-- W alone is a shadow page while menvcfg.SSE is 1
+abbrev pub shadowPage : (sse : Bool) → Leaf → Bool
+shadowPage sse l = sse && (l .w && (not (l .r) && not (l .x)))
+
+-- R alone
+abbrev pub readOnly : Leaf → Bool
+readOnly l = l .r && (not (l .w) && not (l .x))
+
+abbrev pub hasRight : Leaf → Bool
+hasRight l = l .r || (l .w || l .x)
+
+-- step 5: no page if V is 0, or R, W and X are all 0, or bits 63:54 are not 0, or W without R (except a shadow page)
+abbrev pub namesPage : (right shadow : Bool) → Leaf → Bool
+namesPage right shadow l = l .v && (right && (l .clear && (not (l .w) || (l .r || shadow))))
+
+-- step 6: U mode needs the U bit; S mode must not fetch from such a page and needs SUM for data. M has no pages
+abbrev pub userBit : Mode → (sum fetch u : Bool) → Bool
+userBit User sum fetch u = u
+userBit Supervisor sum fetch u = not u || (not fetch && sum)
+userBit Machine sum fetch u = true
+
+-- step 7: a shadow access to a read-only page is a store page fault
+abbrev pub spares : (shadow only : Bool) → Bool
+spares shadow only = not shadow || not only
+
+-- step 7: a shadow access to any other page that is no shadow page, an ordinary store to a shadow page, a fetch from one
+abbrev pub ownPage : Kind → (shadow : Bool) → Bool
+ownPage Fetch shadow = not shadow
+ownPage Load shadow = true
+ownPage Store shadow = not shadow
+ownPage Push shadow = shadow
+ownPage Pop shadow = shadow
+ownPage Swap shadow = shadow
+
+-- step 8: load needs R, or X with MXR, or a shadow page
+abbrev pub readable : (mxr shadow : Bool) → Leaf → Bool
+readable mxr shadow l = l .r || ((l .x && mxr) || shadow)
+
+-- step 8: fetch needs X, store needs W; of a shadow access step 7 has asked all
+abbrev pub serves : Kind → (read : Bool) → Leaf → Bool
+serves Fetch read l = l .x
+serves Load read l = read
+serves Store read l = l .w
+serves Push read l = true
+serves Pop read l = true
+serves Swap read l = true
+
+-- step 8: A must be set, and D for store, push and swap
+abbrev pub marked : (writes : Bool) → Leaf → Bool
+marked writes l = l .a && (not writes || l .d)
+
+-- the test must hold, else this is the verdict
+abbrev pub guard : Bool → Verdict → Verdict → Verdict
+guard true fault rest = rest
+guard false fault rest = fault
+
+-- the first test that fails decides
+abbrev pub decideOf : (names user spares own serves marked : Bool) → Verdict
+decideOf names user spares own serves marked =
+    guard names PageFault
+    (guard user PageFault
+    (guard spares PageFault
+    (guard own AccessFault
+    (guard serves PageFault
+    (guard marked PageFault Granted)))))
+
+unfoldable pub judgeOf : Regime → Kind → Leaf → Verdict
+judgeOf g k l =
+    decideOf
+    (namesPage (hasRight l) (shadowPage (g .sse) l) l)
+    (userBit (g .mode) (g .sum) (isFetch k) (l .u))
+    (spares (isShadow k) (readOnly l))
+    (ownPage k (shadowPage (g .sse) l))
+    (serves k (readable (g .mxr) (shadowPage (g .sse) l) l) l)
+    (marked (writes k) l)
