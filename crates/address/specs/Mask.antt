@@ -2,8 +2,8 @@
 use mathlib.Core.Bool.{Bool}
 use Prim.Native.Nat.{ℕ, _-_, _%_, _^_}
 use Rattle.page.specs.declared.Kind.{Kind}
-use Rattle.page.specs.declared.Kind.the-variants.{Fetch, Load, Store, Push, Pop, Swap}
 use Rattle.page.specs.declared.Regime.{Regime}
+use Rattle.page.specs.Leaf.{isFetch}
 use Rattle.word.specs.Choice.{pick, Table, _⇒_¦_, otherwise, look}
 use Rattle.word.specs.Sign.{signExtendOf}
 
@@ -23,9 +23,4 @@ maskedOf g a = maskOf (maskedBitsOf (g .pmm)) (g .paged) a
 
 -- not for fetch
 unfoldable pub transformedOf : Regime → Kind → ℕ → ℕ
-transformedOf g Fetch a = a
-transformedOf g Load a = maskedOf g a
-transformedOf g Store a = maskedOf g a
-transformedOf g Push a = maskedOf g a
-transformedOf g Pop a = maskedOf g a
-transformedOf g Swap a = maskedOf g a
+transformedOf g k a = pick (isFetch k) a (maskedOf g a)

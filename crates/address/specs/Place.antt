@@ -15,7 +15,6 @@ use Rattle.page.specs.Leaf.{isShadow, judgeOf, leafOf}
 use Rattle.page.specs.Map.{lookupOf}
 use Rattle.address.specs.Mask.{transformedOf}
 use Rattle.page.specs.declared.Kind.{Kind}
-use Rattle.address.specs.declared.Physical.{Physical}
 use Rattle.address.specs.declared.place.Place.{Place}
 use Rattle.address.specs.declared.place.Place.the-variants.{At, Fault}
 use Rattle.page.specs.declared.Regime.{Regime}

@@ -1,5 +1,5 @@
 -- Step 1, and which PMM counts.
-use mathlib.Core.Bool.{Bool, true, false}
+use mathlib.Core.Bool.{Bool, false}
 use Prim.Native.Nat.{ℕ}
 use Rattle.address.specs.declared.regime.Control.{Control}
 use Rattle.page.specs.declared.Kind.{Kind}

@@ -2,6 +2,7 @@
 use super::Virtual;
 use page::Kind;
 use page::Regime;
+use page::leaf;
 ghost use mathlib.Core.Path.{_≡_};
 ghost use Prim.Native.Nat.{_^_, _<_, _≤_};
 ghost use Rattle.address.specs.Mask.{maskedBitsOf, maskOf, transformedOf};
@@ -48,12 +49,8 @@ pub fn transform(g: Regime, k: Kind, a: Virtual) -> Virtual
 {
     let v = a.0;
     let masked = mask(masked_bits(g.pmm), g.paged, v);
-    match k {
-        Kind::Fetch => Virtual(v),
-        Kind::Load => Virtual(masked),
-        Kind::Store => Virtual(masked),
-        Kind::Push => Virtual(masked),
-        Kind::Pop => Virtual(masked),
-        Kind::Swap => Virtual(masked),
+    if leaf::is_fetch(k) {
+        return Virtual(v);
     }
+    Virtual(masked)
 }

@@ -1,7 +1,7 @@
 -- Bytes and the numbers that they hold, over the number of bytes.
 -- Assumes nothing.
 use mathlib.Core.Path.{_≡_, refl, ap}
-use Prim.Native.Nat.{ℕ, zero, suc, _*_, _/_, _%_, _^_, _<_}
+use Prim.Native.Nat.{ℕ, zero, suc, _/_, _%_, _^_, _<_}
 use native.Mathlib.Nat.{pow-suc, pow-succ', pow-zero, one-le-pow, div-div-eq-div-mul, div-one, mod-one}
 use native.Mathlib.Omega.{arith}
 use lib.Arith.{mod-mul}

@@ -6,7 +6,7 @@ use Prim.Native.Nat.{ℕ, suc, _+_, _-_, _*_, _/_, _%_, _^_, _<_, _≤_}
 use native.Mathlib.Nat.{pow-suc, pow-le-pow-right, lt-of-lt-of-le}
 use native.Mathlib.Numerals.{add-one}
 use native.Mathlib.Omega.{arith}
-use lib.ListN.{length, getD, take, drop, set, length-drop}
+use lib.ListN.{length, getD, drop, set, length-drop}
 use lib.Seq.{sets, sets-eq, slice, slice-cons, take-all, drop-length, getD-drop, drop-drop}
 use borrow.Rule.Slice.PartMut.{midOf, putMid, post-is}
 use Rattle.memory.specs.Bytes.{number, bytesOf, storeOf}

@@ -1,5 +1,5 @@
 -- Sign extension by width.
-use mathlib.Core.Bool.{Bool, true, false}
+use mathlib.Core.Bool.{Bool}
 use Prim.Native.Nat.{ℕ, _*_}
 use Rattle.isa.specs.declared.Width.{Width}
 use Rattle.isa.specs.Size.{sizeOf}

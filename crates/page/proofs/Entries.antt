@@ -11,7 +11,6 @@ use lib.ListN.{length, getD, drop, length-drop}
 use lib.Seq.{drop-cons}
 use borrow.Author.Tests.{eq-eqb, ne-eqb, le-leb, lt-leb, lt-ltb, le-ltb, ltb-false, leb-false}
 use Rattle.page.specs.Map.{lookupOf, pagesOf, anyLarge, riseFrom, strictlyRise, refusedOf}
-use Rattle.page.specs.declared.map.Found.{Found}
 use Rattle.page.specs.declared.map.Found.the-variants.{Leaf, Absent}
 use Rattle.word.proofs.Either.{either}
 

@@ -52,7 +52,7 @@ pub fn is_shadow(k: Kind) -> bool
     }
 }
 
-fn is_fetch(k: Kind) -> bool
+pub fn is_fetch(k: Kind) -> bool
     ensures { λ r. ⌜ r ≡ isFetch k ⌝ }
 {
     match k {

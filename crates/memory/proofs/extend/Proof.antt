@@ -1,10 +1,8 @@
+-- `memory::extend` meets its contract. Assumes nothing.
 use Rattle.memory.specs.Extend.{extendOf}
 use borrow.Author.Needs.{needs}
 use Rattle.memory.proofs.extend.Statement.{statement}
 use Rattle.memory.proofs.extend.Tie as tie
-
-signed-requires : tie.Need-signed-requires
-signed-requires c κs = search needs
 
 returns : tie.Need-returns
 unfolding extendOf
@@ -15,4 +13,4 @@ unfolding extendOf
 returns-2 c = rw (c .if1 .left)
 
 pub extend-spec : {M : Type 1} → statement M
-extend-spec = tie.close (tie.spec signed-requires returns returns-2)
+extend-spec = tie.close (tie.spec (λ c κs. search needs) returns returns-2)

@@ -1,3 +1,4 @@
+-- `memory::refused` meets its contract: the tests in refusal 2's order. Assumes nothing.
 use borrow.Author.Tests.{eq-eqb, ne-eqb}
 use Rattle.memory.specs.Refusal.{refusedOf}
 use Rattle.memory.proofs.refused.Statement.{statement}

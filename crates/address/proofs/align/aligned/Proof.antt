@@ -1,20 +1,9 @@
+-- `address::align::aligned` meets its contract: a width an arm. Assumes nothing.
 use native.Mathlib.Nat.{mod-one}
 use Rattle.address.specs.Align.{alignedOf}
 use borrow.Author.Needs.{needs}
 use Rattle.address.proofs.align.aligned.Statement.{statement}
 use Rattle.address.proofs.align.aligned.Tie as tie
-
-enum-told : tie.Need-enum-told
-enum-told c = search needs
-
-enum-told-2 : tie.Need-enum-told-2
-enum-told-2 c = search needs
-
-enum-told-3 : tie.Need-enum-told-3
-enum-told-3 c = search needs
-
-enum-told-4 : tie.Need-enum-told-4
-enum-told-4 c = search needs
 
 returns : tie.Need-returns
 unfolding alignedOf
@@ -35,4 +24,4 @@ returns-4 c = rw (c .enum-told4 .given .1)
 pub aligned-spec : {M : Type 1} → statement M
 aligned-spec =
     tie.close
-    (tie.spec enum-told enum-told-2 enum-told-3 enum-told-4 returns returns-2 returns-3 returns-4)
+    (tie.spec (λ c. search needs) (λ c. search needs) (λ c. search needs) (λ c. search needs) returns returns-2 returns-3 returns-4)

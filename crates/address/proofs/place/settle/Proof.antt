@@ -1,25 +1,8 @@
+-- `address::place::settle` meets its contract: a verdict an arm. Assumes nothing.
 use Rattle.address.specs.Place.{settleOf}
 use borrow.Author.Needs.{needs}
 use Rattle.address.proofs.place.settle.Statement.{statement}
 use Rattle.address.proofs.place.settle.Tie as tie
-
-enum-told : tie.Need-enum-told
-enum-told c = search needs
-
-inside-requires : tie.Need-inside-requires
-inside-requires c κs = search needs
-
-enum-told-2 : tie.Need-enum-told-2
-enum-told-2 c = search needs
-
-page-requires : tie.Need-page-requires
-page-requires c κs = search needs
-
-enum-told-3 : tie.Need-enum-told-3
-enum-told-3 c = search needs
-
-access-requires : tie.Need-access-requires
-access-requires c κs = search needs
 
 returns : tie.Need-returns
 unfolding settleOf
@@ -37,12 +20,12 @@ pub settle-spec : {M : Type 1} → statement M
 settle-spec =
     tie.close
     (tie.spec
-    enum-told
-    inside-requires
-    enum-told-2
-    page-requires
-    enum-told-3
-    access-requires
+    (λ c. search needs)
+    (λ c κs. search needs)
+    (λ c. search needs)
+    (λ c κs. search needs)
+    (λ c. search needs)
+    (λ c κs. search needs)
     returns
     returns-2
     returns-3)

@@ -1,3 +1,4 @@
+-- `address::place::translate` meets its contract: the steps in their order. Assumes nothing.
 use Rattle.word.proofs.Choices.{first}
 use mathlib.Core.Path.{sym, _∙_}
 use Rattle.address.specs.Place.{placeOf, reachedOf}
@@ -5,28 +6,13 @@ use borrow.Author.Needs.{needs}
 use Rattle.address.proofs.place.translate.Statement.{statement}
 use Rattle.address.proofs.place.translate.Tie as tie
 
-transform-requires : tie.Need-transform-requires
-transform-requires c κs = search needs
-
-aligned-requires : tie.Need-aligned-requires
-aligned-requires c κs = search needs
-
-paged-requires : tie.Need-paged-requires
-paged-requires c κs = search needs
-
 returns : tie.Need-returns
 unfolding placeOf reachedOf
 returns c = let b = c .before .before .before in rw (← b .before .transform .ensures, sym (b .aligned .ensures) ∙ c .before .before .if1 .taken) (c .paged .ensures ∙ sym (first _ _ _ (c .before .if2 .taken)))
 
-plain-requires : tie.Need-plain-requires
-plain-requires c κs = search needs
-
 returns-2 : tie.Need-returns-2
 unfolding placeOf reachedOf
 returns-2 c = let b = c .before .before .before in rw (← b .before .transform .ensures, sym (b .aligned .ensures) ∙ c .before .before .if1 .taken, c .before .if2 .left) (c .plain .ensures)
-
-misaligned-requires : tie.Need-misaligned-requires
-misaligned-requires c κs = search needs
 
 returns-3 : tie.Need-returns-3
 unfolding placeOf reachedOf
@@ -36,11 +22,11 @@ pub translate-spec : {M : Type 1} → statement M
 translate-spec =
     tie.close
     (tie.spec
-    transform-requires
-    aligned-requires
-    paged-requires
+    (λ c κs. search needs)
+    (λ c κs. search needs)
+    (λ c κs. search needs)
     returns
-    plain-requires
+    (λ c κs. search needs)
     returns-2
-    misaligned-requires
+    (λ c κs. search needs)
     returns-3)

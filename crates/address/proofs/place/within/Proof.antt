@@ -1,3 +1,4 @@
+-- `address::place::within` meets its contract: the sum is taken only where it cannot overflow. Assumes nothing.
 use Prim.Native.Nat.{_+_}
 use borrow.Author.Tests.{lt-leb, le-leb}
 use native.Mathlib.Omega.{arith}
@@ -10,22 +11,13 @@ returns : tie.Need-returns
 unfolding withinOf
 returns c = rw (lt-leb _ _ (c .if1 .taken))
 
-add-if2 : tie.Need-add-if2
-add-if2 c = search needs
-
 returns-2 : tie.Need-returns-2
 unfolding withinOf
 returns-2 c = let a = c .before .before .args in rw (le-leb _ _ (c .before .if1 .left), lt-leb (a .p + a .n) (0x80000000 + a .len) (omega arith))
-
-add-result : tie.Need-add-result
-add-result c = search needs
-
-add-result-2 : tie.Need-add-result-2
-add-result-2 c = search needs
 
 returns-3 : tie.Need-returns-3
 unfolding withinOf
 returns-3 c = rw (le-leb _ _ (c .before .if1 .left))
 
 pub within-spec : {M : Type 1} → statement M
-within-spec = tie.close (tie.spec returns add-if2 returns-2 add-result add-result-2 returns-3)
+within-spec = tie.close (tie.spec returns (λ c. search needs) returns-2 (λ c. search needs) (λ c. search needs) returns-3)

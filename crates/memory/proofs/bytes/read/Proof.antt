@@ -1,3 +1,4 @@
+-- `memory::bytes::read` meets its contract: the number in the bytes from i on. Assumes nothing.
 use mathlib.Core.Path.{_≡_, sym, ap}
 use Prim.Native.Nat.{_≤_, _<_, _-_, _^_}
 use native.Mathlib.Nat.{sub-self, sub-zero}
@@ -29,27 +30,6 @@ loop-holds : tie.Need-loop-holds Inv-loop μ-loop
 unfolding number
 loop-holds c = (omega arith, sym (ap number (slice-empty (c .before .args .n) (drop (c .before .args .at) (c .before .args .mem .now)))), rw sub-self (omega arith))
 
-sub-i : tie.Need-sub-i Inv-loop μ-loop
-sub-i c = search needs
-
-mul-v : tie.Need-mul-v Inv-loop μ-loop
-mul-v c = omega (arith, room _ _ _ (c .before .before .before .pre .0) (c .loop-test .taken) (c .before .loop .inv .2))
-
-add-wide : tie.Need-add-wide Inv-loop μ-loop
-add-wide c = search needs
-
-shared-slice-read-wide : tie.Need-shared-slice-read-wide Inv-loop μ-loop
-shared-slice-read-wide c = search needs
-
-wide-requires : tie.Need-wide-requires Inv-loop μ-loop
-wide-requires c κs = search needs
-
-add-v : tie.Need-add-v Inv-loop μ-loop
-add-v c = omega (arith, roomy c)
-
-loop-less : tie.Need-loop-less Inv-loop μ-loop
-loop-less c = search needs
-
 loop-again : tie.Need-loop-again Inv-loop μ-loop
 loop-again c =
     let l = c .before .before .before .loop in
@@ -70,12 +50,12 @@ read-spec =
     Inv-loop
     μ-loop
     loop-holds
-    sub-i
-    mul-v
-    add-wide
-    shared-slice-read-wide
-    wide-requires
-    add-v
-    loop-less
+    (λ c. search needs)
+    (λ c. omega (arith, room _ _ _ (c .before .before .before .pre .0) (c .loop-test .taken) (c .before .loop .inv .2)))
+    (λ c. search needs)
+    (λ c. search needs)
+    (λ c κs. search needs)
+    (λ c. omega (arith, roomy c))
+    (λ c. search needs)
     loop-again
     returns)

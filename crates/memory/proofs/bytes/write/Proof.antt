@@ -1,4 +1,5 @@
-use mathlib.Core.Path.{_≡_, refl, sym, ap, _∙_}
+-- `memory::bytes::write` meets its contract: what is left to be stored, stored, gives the whole. Assumes nothing.
+use mathlib.Core.Path.{_≡_, refl, _∙_}
 use mathlib.Core.List.{_++_}
 use Prim.Native.Nat.{_≤_, _-_}
 use native.Mathlib.Omega.{arith}
@@ -21,27 +22,6 @@ Inv-loop part₀ n v rest₀ i₀ part rest i =
 abbrev μ-loop : tie.MeasureT-loop
 μ-loop part₀ n v rest₀ i₀ part rest i = n - i
 
-loop-holds : tie.Need-loop-holds Inv-loop μ-loop
-loop-holds c = (omega arith, refl, rw sub-zero (stored _ _ _ (c .pre)))
-
-cast-part : tie.Need-cast-part Inv-loop μ-loop
-cast-part c = search needs
-
-slice-write-part : tie.Need-slice-write-part Inv-loop μ-loop
-slice-write-part c = omega arith
-
-add-i : tie.Need-add-i Inv-loop μ-loop
-add-i c = omega arith
-
-loop-less : tie.Need-loop-less Inv-loop μ-loop
-loop-less c = omega arith
-
-loop-again : tie.Need-loop-again Inv-loop μ-loop
-loop-again c = (omega arith, simp length-set (omega arith), turn _ _ _ _ (c .loop-test .taken) ∙ c .before .loop .inv .2)
-
-same-length : tie.Need-same-length Inv-loop μ-loop
-same-length c = omega arith
-
 returns : tie.Need-returns Inv-loop μ-loop
 unfolding bytesOf
 returns c =
@@ -54,11 +34,11 @@ write-spec =
     (tie.spec
     Inv-loop
     μ-loop
-    loop-holds
-    cast-part
-    slice-write-part
-    add-i
-    loop-less
-    loop-again
-    same-length
+    (λ c. (omega arith, refl, rw sub-zero (stored _ _ _ (c .pre))))
+    (λ c. search needs)
+    (λ c. omega arith)
+    (λ c. omega arith)
+    (λ c. omega arith)
+    (λ c. (omega arith, simp length-set (omega arith), turn _ _ _ _ (c .loop-test .taken) ∙ c .before .loop .inv .2))
+    (λ c. omega arith)
     returns)

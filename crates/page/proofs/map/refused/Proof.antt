@@ -1,3 +1,4 @@
+-- `page::map::refused` meets its contract: what is wrong from word i on is what is wrong with the map. Assumes nothing.
 use mathlib.Core.Path.{_≡_, refl, sym, _∙_}
 use Prim.Native.Nat.{_-_, _%_, _≤_}
 use native.Mathlib.Omega.{arith}
@@ -16,21 +17,6 @@ Inv-loop map low₀ i₀ low i = (i ≤ length map) × (i % 2 ≡ 0) × (refused
 abbrev μ-loop : tie.MeasureT-loop
 μ-loop map low₀ i₀ low i = length map - i
 
-returns : tie.Need-returns Inv-loop μ-loop
-returns c = sym (refused-odd _ (c .if1 .taken))
-
-returns-2 : tie.Need-returns-2 Inv-loop μ-loop
-returns-2 c = sym (refused-long _ (c .before .if1 .left) (c .if2 .taken))
-
-loop-holds : tie.Need-loop-holds Inv-loop μ-loop
-loop-holds c = (omega arith, refl, refused-start _ (c .before .if1 .left) (c .if2 .left))
-
-mul-k : tie.Need-mul-k Inv-loop μ-loop
-mul-k c = search needs
-
-shared-slice-read-k : tie.Need-shared-slice-read-k Inv-loop μ-loop
-shared-slice-read-k c = search needs
-
 returns-3 : tie.Need-returns-3 Inv-loop μ-loop
 returns-3 c =
     let l = c .before .before .before .loop in
@@ -41,22 +27,10 @@ returns-4 c =
     let l = c .before .before .before .before .loop in
     sym (l .inv .2 ∙ wrong-large _ (l .i) _ (omega arith) (c .before .if3 .left) (c .if4 .taken))
 
-add-low : tie.Need-add-low Inv-loop μ-loop
-add-low c = search needs
-
-add-i : tie.Need-add-i Inv-loop μ-loop
-add-i c = search needs
-
-loop-less : tie.Need-loop-less Inv-loop μ-loop
-loop-less c = search needs
-
 loop-again : tie.Need-loop-again Inv-loop μ-loop
 loop-again c =
     let l = c .before .before .before .before .loop in
     (omega arith, omega arith, l .inv .2 ∙ wrong-next _ (l .i) _ (omega arith) (c .before .if3 .left) (c .if4 .left))
-
-returns-5 : tie.Need-returns-5 Inv-loop μ-loop
-returns-5 c = sym (c .before .loop .inv .2 ∙ wrong-end _ (c .before .loop .i) _ (omega arith))
 
 pub refused-spec : {M : Type 1} → statement M
 refused-spec =
@@ -64,15 +38,15 @@ refused-spec =
     (tie.spec
     Inv-loop
     μ-loop
-    returns
-    returns-2
-    loop-holds
-    mul-k
-    shared-slice-read-k
+    (λ c. sym (refused-odd _ (c .if1 .taken)))
+    (λ c. sym (refused-long _ (c .before .if1 .left) (c .if2 .taken)))
+    (λ c. (omega arith, refl, refused-start _ (c .before .if1 .left) (c .if2 .left)))
+    (λ c. search needs)
+    (λ c. search needs)
     returns-3
     returns-4
-    add-low
-    add-i
-    loop-less
+    (λ c. search needs)
+    (λ c. search needs)
+    (λ c. search needs)
     loop-again
-    returns-5)
+    (λ c. sym (c .before .loop .inv .2 ∙ wrong-end _ (c .before .loop .i) _ (omega arith))))
