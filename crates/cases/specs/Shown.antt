@@ -4,6 +4,7 @@
 use Prim.Native.Nat.{ℕ}
 use mathlib.Core.Bool.{Bool, true, false}
 use mathlib.Core.List.{List, _∷_, []}
+use Rattle.isa.specs.Size.{sizeOf, widthOf}
 use Rattle.isa.specs.declared.Access.{Access}
 use Rattle.isa.specs.declared.Access.the-variants.{Load, Store, Push, Pop, Swap}
 use Rattle.isa.specs.declared.Condition.{Condition}
@@ -17,8 +18,6 @@ use Rattle.isa.specs.declared.Instruction.the-variants.{Illegal, Lui, Auipc, Ja
 use Rattle.isa.specs.declared.Instruction.the-variants.{Fence, Ecall, Ebreak, Sret, Mret, Csr, ReadSsp, MopR, MopRr}
 use Rattle.isa.specs.declared.Operation.{Operation}
 use Rattle.isa.specs.declared.Operation.the-variants.{Add, Sub, Sll, Slt, Sltu, Xor, Srl, Sra, Or, And}
-use Rattle.isa.specs.declared.Width.{Width}
-use Rattle.isa.specs.declared.Width.the-variants.{Byte, Half, Word, Double}
 use Rattle.isa.specs.declared.WordOperation.{WordOperation}
 use Rattle.isa.specs.declared.WordOperation.the-variants.{Addw, Subw, Sllw, Srlw, Sraw}
 
@@ -49,26 +48,12 @@ wordOperationOf Sllw = 2
 wordOperationOf Srlw = 3
 wordOperationOf Sraw = 4
 
-abbrev pub widthOf : Width → ℕ
-widthOf Byte = 1
-widthOf Half = 2
-widthOf Word = 4
-widthOf Double = 8
-
 abbrev pub accessOf : Access → ℕ
 accessOf (Load w s) = 0
 accessOf (Store w) = 1
 accessOf Push = 2
 accessOf Pop = 3
 accessOf (Swap w aq rl) = 4
-
--- how many bytes are moved
-abbrev pub bytesOf : Access → ℕ
-bytesOf (Load w s) = widthOf w
-bytesOf (Store w) = widthOf w
-bytesOf Push = 8
-bytesOf Pop = 8
-bytesOf (Swap w aq rl) = widthOf w
 
 -- aq is bit 1 and rl bit 0
 abbrev pub orderOf : Bool → Bool → ℕ
@@ -107,7 +92,7 @@ rowOf family operation rd rs1 rs2 imm more last = family ∷ operation ∷ rd �
 
 -- the two numbers more are the bytes moved and the marks
 abbrev pub memoryOf : Access → ℕ → ℕ → ℕ → ℕ → List ℕ
-memoryOf a rd rs1 rs2 offset = rowOf 6 (accessOf a) rd rs1 rs2 offset (bytesOf a) (marksOf a)
+memoryOf a rd rs1 rs2 offset = rowOf 6 (accessOf a) rd rs1 rs2 offset (sizeOf (widthOf a)) (marksOf a)
 
 -- the two numbers more are the CSR and whether the source is an immediate
 abbrev pub csrAccessOf : CsrOperation → CsrSource → ℕ → ℕ → List ℕ

@@ -6,22 +6,24 @@ ghost use mathlib.Core.Path.{_≡_};
 ghost use Prim.Native.Nat.{_≤_};
 ghost use Rattle.cases.specs.Shown.{shownOf, rowOf, memoryOf, csrAccessOf};
 ghost use Rattle.cases.specs.Shown.{conditionOf, operationOf, wordOperationOf};
-ghost use Rattle.cases.specs.Shown.{widthOf, accessOf, bytesOf, orderOf, marksOf};
+ghost use Rattle.cases.specs.Shown.{accessOf, orderOf, marksOf};
 ghost use Rattle.cases.specs.Shown.{csrOf, registerOf, numberOf, sourceOf};
-ghost use Rattle.cases.specs.Counted.{oneMore};
+ghost use Rattle.lines.specs.Counted.{oneMore};
+ghost use Rattle.lines.specs.Most.{most};
 ghost use lib.ListN.{length};
-use super::line::Line;
-use super::report;
-use super::report::Counts;
-use super::report::Fault;
 use isa::Access;
 use isa::Condition;
 use isa::CsrOperation;
 use isa::CsrSource;
 use isa::Instruction;
 use isa::Operation;
-use isa::Width;
 use isa::WordOperation;
+use isa::size;
+use lines::line::Line;
+use lines::line::MOST;
+use lines::report;
+use lines::report::Counts;
+use lines::report::Fault;
 
 fn condition(c: Condition) -> u64
     ensures { λ r. ⌜ r ≡ conditionOf c ⌝ }
@@ -65,17 +67,6 @@ fn word_operation(o: WordOperation) -> u64
     }
 }
 
-fn width(w: Width) -> u64
-    ensures { λ r. ⌜ r ≡ widthOf w ⌝ }
-{
-    match w {
-        Width::Byte => 1,
-        Width::Half => 2,
-        Width::Word => 4,
-        Width::Double => 8,
-    }
-}
-
 fn access(a: Access) -> u64
     ensures { λ r. ⌜ r ≡ accessOf a ⌝ }
 {
@@ -85,18 +76,6 @@ fn access(a: Access) -> u64
         Access::Push => 2,
         Access::Pop => 3,
         Access::Swap(_, _, _) => 4,
-    }
-}
-
-fn bytes(a: Access) -> u64
-    ensures { λ r. ⌜ r ≡ bytesOf a ⌝ }
-{
-    match a {
-        Access::Load(w, _) => width(w),
-        Access::Store(w) => width(w),
-        Access::Push => 8,
-        Access::Pop => 8,
-        Access::Swap(w, _, _) => width(w),
     }
 }
 
@@ -197,7 +176,16 @@ fn fence(fm: u8, pred: u8, succ: u8, rs1: u8, rd: u8) -> [u64; 8]
 fn memory(a: Access, rd: u8, rs1: u8, rs2: u8, offset: u64) -> [u64; 8]
     ensures { λ r. ⌜ r ≡ memoryOf a rd rs1 rs2 offset ⌝ }
 {
-    row(6, access(a), rd, rs1, rs2, offset, bytes(a), marks(a))
+    row(
+        6,
+        access(a),
+        rd,
+        rs1,
+        rs2,
+        offset,
+        size::bytes(size::width(a)),
+        marks(a),
+    )
 }
 
 // A CSR instruction: the CSR, and whether the source is an immediate, are the two numbers more.
@@ -243,8 +231,8 @@ fn shown(i: Instruction) -> [u64; 8]
     }
 }
 
-pub fn judge(c: Counts, s: &[u8], at: Line, numbers: &[u64; 96]) -> Counts
-    requires { ⌜ (at .given ≤ at .count) × (at .count ≤ 96) ⌝ }
+pub fn judge(c: Counts, s: &[u8], at: Line, numbers: &[u64; MOST]) -> Counts
+    requires { ⌜ (at .given ≤ at .count) × (at .count ≤ most) ⌝ }
     requires { ⌜ (at .equals ≤ length (now s)) × (at .text ≤ length (now s)) ⌝ }
     ensures { λ r. ⌜ r .cases ≡ oneMore (c .cases) ⌝ }
 {

@@ -1,15 +1,39 @@
 // Runs the files of cases and prints a line for each case, and the counts.
 //
-// A file of another kind of case gets a line in `main` and a module beside decode with a `judge` of its
-// own; `judge` here, and what calls it, then take the kind, as an enum, and choose by it.
+// A file of another kind of case gets a line in `main`, a variant of `Subject`, and a module with a `judge`
+// of its own.
 ghost use mathlib.Core.Path.{_≡_};
+ghost use Prim.Native.Nat.{_≤_};
 ghost use lib.ListN.{length};
-use report::Counts;
-use report::Fault;
+ghost use Rattle.lines.specs.Most.{most};
+use lines::line;
+use lines::line::Line;
+use lines::line::MOST;
+use lines::report;
+use lines::report::Counts;
+use lines::report::Fault;
 
+// Loads and stores.
+mod bytes;
+// Instruction words.
 mod decode;
-mod line;
-mod report;
+// Pointer masking alone.
+mod mask;
+// From address to byte.
+mod place;
+// Refusals 2 and 3.
+mod refused;
+// The width that a number of bytes names.
+mod width;
+
+// What the cases of a file are about.
+enum Subject {
+    Decode,
+    Mask,
+    Place,
+    Bytes,
+    Refused,
+}
 
 // 262,144 zeros, for a whole file.
 fn buffer() -> [u8; 262144]
@@ -18,37 +42,51 @@ fn buffer() -> [u8; 262144]
     [0; 262144]
 }
 
+// A line whose numbers were read.
+fn run(subject: Subject, c: Counts, s: &[u8], at: Line, numbers: &[u64; MOST]) -> Counts
+    requires { ⌜ (at .given ≤ at .count) × (at .count ≤ most) ⌝ }
+    requires { ⌜ (at .equals ≤ length (now s)) × (at .text ≤ length (now s)) ⌝ }
+{
+    match subject {
+        Subject::Decode => decode::judge(c, s, at, numbers),
+        Subject::Mask => mask::judge(c, s, at, numbers),
+        Subject::Place => place::judge(c, s, at, numbers),
+        Subject::Bytes => bytes::judge(c, s, at, numbers),
+        Subject::Refused => refused::judge(c, s, at, numbers),
+    }
+}
+
 // One line, without its line feed.
-fn judge(c: Counts, s: &[u8]) -> Counts {
+fn judge(subject: Subject, c: Counts, s: &[u8]) -> Counts {
     if s.len() == 0 {
         return report::heading(c, s);
     }
     if s[0] == b'#' {
         return report::heading(c, s);
     }
-    let mut numbers = [0u64; 96];
+    let mut numbers = [0u64; MOST];
     let at = line::read(s, &mut numbers);
     let fault = at.fault;
     if let Fault::Nothing = fault {
-        decode::judge(c, s, at, &numbers)
+        run(subject, c, s, at, &numbers)
     } else {
         report::broken(c, s, fault)
     }
 }
 
-fn lines(c: Counts, s: &[u8]) -> Counts {
+fn every_line(subject: Subject, c: Counts, s: &[u8]) -> Counts {
     let mut counts = c;
     let mut at = 0;
     while at < s.len() {
         let end = line::end(s, at);
-        counts = judge(counts, &s[at..end]);
+        counts = judge(subject, counts, &s[at..end]);
         at = end + 1;
     }
     counts
 }
 
 // Reading once more tells a file that ended from one that is too long and from one that failed.
-fn file(c: Counts, name: &[u8]) -> Counts {
+fn file(subject: Subject, c: Counts, name: &[u8]) -> Counts {
     let fd = os::open_read(name);
     if fd < 0 {
         return report::broken(c, name, Fault::NotOpened);
@@ -64,7 +102,7 @@ fn file(c: Counts, name: &[u8]) -> Counts {
     if more > 0 {
         return report::broken(c, name, Fault::TooLong);
     }
-    let counts = lines(c, &space[..n]);
+    let counts = every_line(subject, report::heading(c, name), &space[..n]);
     if counts.cases == c.cases {
         return report::broken(c, name, Fault::Empty);
     }
@@ -76,5 +114,10 @@ fn main() {
         cases: 0,
         failed: 0,
     };
-    report::total(file(none, b"decode.txt"));
+    let decode = file(Subject::Decode, none, b"decode.txt");
+    let mask = file(Subject::Mask, decode, b"mask.txt");
+    let place = file(Subject::Place, mask, b"place.txt");
+    let bytes = file(Subject::Bytes, place, b"bytes.txt");
+    let refused = file(Subject::Refused, bytes, b"refused.txt");
+    report::total(refused);
 }

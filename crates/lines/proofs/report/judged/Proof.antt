@@ -1,10 +1,10 @@
--- `cases::report::judged` meets its contract: `same` tells whether the lists are equal, and each arm's counts follow.
+-- `lines::report::judged` meets its contract: `same` tells whether the lists are equal, and each arm's counts follow.
 -- Assumes nothing.
 use mathlib.Core.Path.{_∙_, sym, subst}
 use lib.Dec.{T}
 use borrow.Author.Needs.{needs}
-use Rattle.cases.proofs.report.judged.Statement.{statement}
-use Rattle.cases.proofs.report.judged.Tie as tie
+use Rattle.lines.proofs.report.judged.Statement.{statement}
+use Rattle.lines.proofs.report.judged.Tie as tie
 
 pub judged-spec : {M : Type 1} → statement M
 judged-spec =

@@ -1,4 +1,4 @@
--- `cases::report::same` meets its contract, as `check::same` does of bytes: the slices agree at each index below i.
+-- `lines::report::same` meets its contract, as `check::same` does of bytes: the slices agree at each index below i.
 -- Assumes nothing.
 use borrow.Author.Needs.{needs}
 use Prim.Native.Nat.{ℕ, _≤_, _<_, _-_}
@@ -10,8 +10,8 @@ use lib.Dec.{T}
 use lib.ListN.{length, getD}
 use lib.Seq.{ext-getD}
 use borrow.Author.Count.{below-more}
-use Rattle.cases.proofs.report.same.Statement.{statement}
-use Rattle.cases.proofs.report.same.Tie as tie
+use Rattle.lines.proofs.report.same.Statement.{statement}
+use Rattle.lines.proofs.report.same.Tie as tie
 
 abbrev Inv-loop : tie.InvT-loop
 Inv-loop a b i₀ i = (i ≤ length a) × ((k : ℕ) → k < i → getD a k 0 ≡ getD b k 0)

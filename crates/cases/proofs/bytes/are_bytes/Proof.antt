@@ -1,23 +1,23 @@
--- `cases::line::end` meets its contract: the loop stays at or after `at` and within the slice.
--- Assumes nothing.
+-- `cases::bytes::are_bytes` is safe and ends. Assumes nothing.
 use borrow.Author.Needs.{needs}
 use Prim.Native.Nat.{_≤_, _-_}
 use lib.ListN.{length}
-use Rattle.cases.proofs.line.end.Statement.{statement}
-use Rattle.cases.proofs.line.end.Tie as tie
+use Rattle.cases.proofs.bytes.are_bytes.Statement.{statement}
+use Rattle.cases.proofs.bytes.are_bytes.Tie as tie
 
 abbrev Inv-loop : tie.InvT-loop
-Inv-loop s at i₀ i = (at ≤ i) × (i ≤ length s)
+Inv-loop from i₀ i = i ≤ length from
 
 abbrev μ-loop : tie.MeasureT-loop
-μ-loop s at i₀ i = length s - i
+μ-loop from i₀ i = length from - i
 
-pub end-spec : {M : Type 1} → statement M
-end-spec =
+pub are-bytes-spec : {M : Type 1} → statement M
+are-bytes-spec =
     tie.close
     (tie.spec
     Inv-loop
     μ-loop
+    (λ c. search needs)
     (λ c. search needs)
     (λ c. search needs)
     (λ c. search needs)

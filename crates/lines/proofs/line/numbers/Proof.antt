@@ -1,13 +1,14 @@
--- `cases::line::numbers` meets its contract: the loop stays within the slice, and the count within the array.
+-- `lines::line::numbers` meets its contract: the loop stays within the slice, and the count within the array.
 -- Assumes nothing.
 use borrow.Author.Needs.{needs}
 use Prim.Native.Nat.{_≤_, _-_}
 use lib.ListN.{length}
-use Rattle.cases.proofs.line.numbers.Statement.{statement}
-use Rattle.cases.proofs.line.numbers.Tie as tie
+use Rattle.lines.specs.Most.{most}
+use Rattle.lines.proofs.line.numbers.Statement.{statement}
+use Rattle.lines.proofs.line.numbers.Tie as tie
 
 abbrev Inv-loop : tie.InvT-loop
-Inv-loop s at from out₀ i₀ n₀ out i n = (i ≤ length s) × ((from ≤ n) × (n ≤ 96))
+Inv-loop s at from out₀ i₀ n₀ out i n = (i ≤ length s) × ((from ≤ n) × (n ≤ most))
 
 abbrev μ-loop : tie.MeasureT-loop
 μ-loop s at from out₀ i₀ n₀ out i n = length s - i

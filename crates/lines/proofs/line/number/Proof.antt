@@ -1,10 +1,10 @@
--- `cases::line::number` meets its contract: the loop stays at or after `at` and within the slice, and the test on `value` leaves room for a digit.
+-- `lines::line::number` meets its contract: the loop stays at or after `at` and within the slice, and the test on `value` leaves room for a digit.
 -- Assumes nothing.
 use borrow.Author.Needs.{needs}
 use Prim.Native.Nat.{_≤_, _-_}
 use lib.ListN.{length}
-use Rattle.cases.proofs.line.number.Statement.{statement}
-use Rattle.cases.proofs.line.number.Tie as tie
+use Rattle.lines.proofs.line.number.Statement.{statement}
+use Rattle.lines.proofs.line.number.Tie as tie
 
 abbrev Inv-loop : tie.InvT-loop
 Inv-loop s at value₀ i₀ value i = (at ≤ i) × (i ≤ length s)

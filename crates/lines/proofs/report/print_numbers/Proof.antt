@@ -1,9 +1,9 @@
--- `cases::report::print_numbers` is safe and ends. Assumes nothing.
+-- `lines::report::print_numbers` is safe and ends. Assumes nothing.
 use borrow.Author.Needs.{needs}
 use Prim.Native.Nat.{_≤_, _-_}
 use lib.ListN.{length}
-use Rattle.cases.proofs.report.print_numbers.Statement.{statement}
-use Rattle.cases.proofs.report.print_numbers.Tie as tie
+use Rattle.lines.proofs.report.print_numbers.Statement.{statement}
+use Rattle.lines.proofs.report.print_numbers.Tie as tie
 
 abbrev Inv-loop : tie.InvT-loop
 Inv-loop a i₀ i = i ≤ length a

@@ -4,8 +4,9 @@ ghost use mathlib.Core.Path.{_≡_};
 ghost use mathlib.Core.Bool.{true};
 ghost use Prim.Native.Nat.{_≤_};
 ghost use lib.ListN.{length};
-ghost use Rattle.cases.specs.Counted.{oneMore};
+ghost use Rattle.lines.specs.Counted.{oneMore};
 use super::line::Line;
+use super::line::MOST;
 use libc::STDOUT_FILENO;
 
 pub struct Counts {
@@ -34,9 +35,10 @@ fn print(text: &[u8]) {
 fn explain(fault: Fault) {
     match fault {
         Fault::Nothing => print(b"nothing is wrong"),
-        Fault::Numbers => print(
-            b"a number has more than 64 bits, or there are more than 96 numbers",
-        ),
+        Fault::Numbers => {
+            print(b"a number has more than 64 bits, or there are more numbers than ");
+            io::print_decimal(STDOUT_FILENO, MOST as u64);
+        }
         Fault::NoEquals => print(b"a bad character, or no '=', after the given numbers"),
         Fault::NoText => print(b"a bad character, or no '#', after the wanted numbers"),
         Fault::Given => print(b"not the given numbers that a case of this file has"),
@@ -144,7 +146,7 @@ fn print_failed(s: &[u8], equals: usize, text: usize, got: &[u64])
 {
     print(b"FAILED ");
     print_label(s, equals, text);
-    print(b": read as");
+    print(b": got");
     print_numbers(got);
     print(b"\n");
 }

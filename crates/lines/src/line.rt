@@ -6,7 +6,11 @@
 // not of this form is answered with a fault, so that whoever runs the file can count it as failed.
 ghost use Prim.Native.Nat.{_≤_, _+_};
 ghost use lib.ListN.{length};
+ghost use Rattle.lines.specs.Most.{most};
 use super::report::Fault;
+
+// How many numbers a line has at most: those of a page map of 65 entries, one too many, and the case's own.
+pub const MOST: usize = 192;
 
 // The given numbers are the first `given` that were read, the wanted ones follow up to `count`. `=`
 // stands at `equals`, and the text starts at `text`.
@@ -58,9 +62,9 @@ fn number(s: &[u8], at: usize) -> Value
 }
 
 // Puts the numbers that start at `at` into `out`, after the first `from` that are there already.
-fn numbers(s: &[u8], at: usize, from: usize, out: &mut [u64; 96]) -> Run
-    requires { ⌜ (at ≤ length (now s)) × (from ≤ 96) ⌝ }
-    ensures { λ r. ⌜ (from ≤ r .0) × (r .0 ≤ 96) × (r .1 ≤ length (now (s .entry))) ⌝ }
+fn numbers(s: &[u8], at: usize, from: usize, out: &mut [u64; MOST]) -> Run
+    requires { ⌜ (at ≤ length (now s)) × (from ≤ most) ⌝ }
+    ensures { λ r. ⌜ (from ≤ r .0) × (r .0 ≤ most) × (r .1 ≤ length (now (s .entry))) ⌝ }
 {
     let mut i = at;
     let mut n = from;
@@ -74,7 +78,7 @@ fn numbers(s: &[u8], at: usize, from: usize, out: &mut [u64; 96]) -> Run
         if next <= i {
             return Run(n, i, true);
         }
-        if n >= 96 {
+        if n >= MOST {
             return Run(n, i, false);
         }
         if !read.2 {
@@ -113,9 +117,9 @@ fn text_start(s: &[u8], at: usize) -> usize
 }
 
 // The part after '=', which stands at `equals`.
-fn wanted(s: &[u8], equals: usize, given: usize, out: &mut [u64; 96]) -> Line
-    requires { ⌜ (equals + 1 ≤ length (now s)) × (given ≤ 96) ⌝ }
-    ensures { λ r. ⌜ (r .given ≤ r .count) × (r .count ≤ 96) ⌝ }
+fn wanted(s: &[u8], equals: usize, given: usize, out: &mut [u64; MOST]) -> Line
+    requires { ⌜ (equals + 1 ≤ length (now s)) × (given ≤ most) ⌝ }
+    ensures { λ r. ⌜ (r .given ≤ r .count) × (r .count ≤ most) ⌝ }
     ensures { λ r. ⌜ (r .equals ≤ length (now (s .entry))) × (r .text ≤ length (now (s .entry))) ⌝ }
 {
     let read = numbers(s, equals + 1, given, out);
@@ -139,8 +143,8 @@ fn wanted(s: &[u8], equals: usize, given: usize, out: &mut [u64; 96]) -> Line
     bad(Fault::NoText)
 }
 
-pub fn read(s: &[u8], out: &mut [u64; 96]) -> Line
-    ensures { λ r. ⌜ (r .given ≤ r .count) × (r .count ≤ 96) ⌝ }
+pub fn read(s: &[u8], out: &mut [u64; MOST]) -> Line
+    ensures { λ r. ⌜ (r .given ≤ r .count) × (r .count ≤ most) ⌝ }
     ensures { λ r. ⌜ (r .equals ≤ length (now (s .entry))) × (r .text ≤ length (now (s .entry))) ⌝ }
 {
     let read = numbers(s, 0, 0, &mut *out);

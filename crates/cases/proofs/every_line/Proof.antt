@@ -1,18 +1,18 @@
--- `cases::lines` is safe and ends: each turn goes past a line feed or the end. Assumes nothing.
+-- `cases::every_line` is safe and ends: each turn goes past a line feed or the end. Assumes nothing.
 use borrow.Author.Needs.{needs}
 use Prim.Native.Nat.{_≤_, _+_, _-_}
 use lib.ListN.{length}
-use Rattle.cases.proofs.lines.Statement.{statement}
-use Rattle.cases.proofs.lines.Tie as tie
+use Rattle.cases.proofs.every_line.Statement.{statement}
+use Rattle.cases.proofs.every_line.Tie as tie
 
 abbrev Inv-loop : tie.InvT-loop
-Inv-loop s counts₀ at₀ counts at = at ≤ 1 + length s
+Inv-loop subject s counts₀ at₀ counts at = at ≤ 1 + length s
 
 abbrev μ-loop : tie.MeasureT-loop
-μ-loop s counts₀ at₀ counts at = 1 + length s - at
+μ-loop subject s counts₀ at₀ counts at = 1 + length s - at
 
-pub lines-spec : {M : Type 1} → statement M
-lines-spec =
+pub every-line-spec : {M : Type 1} → statement M
+every-line-spec =
     tie.close
     (tie.spec
     Inv-loop
