@@ -13,7 +13,7 @@ def case(line, text):
     form = re.fullmatch(r"(\S+), (\d+) bits, (Sv39|Bare)", given)
     if not form:
         raise Wrong(f"'{given}': write an address, how many bits are masked, and Sv39 or Bare, as `0x1000, 7 bits, Sv39`")
-    numbers = [number(form[2], 0, 63, "number of masked bits"), int(form[3] == "Sv39"), number(form[1], 0, LARGEST, "address")]
+    numbers = [number(form[2], 0, 16, "number of masked bits"), int(form[3] == "Sv39"), number(form[1], 0, LARGEST, "address")]
     right = number(wanted, 0, LARGEST, "address")
     return Case(line, hexadecimal(numbers), hexadecimal([right]), said(given, wanted, remark))
 

@@ -20,7 +20,7 @@ fn masked_bits(pmm: u8) -> u64
 
 fn power(k: u64) -> u64
     requires { ⌜ k < 64 ⌝ }
-    ensures { λ r. ⌜ r ≡ 2 ^ k ⌝ }
+    ensures { λ r. ⌜ (r ≡ 2 ^ k) × (0 < r) ⌝ }
 {
     1u64 << k
 }

@@ -30,7 +30,7 @@ pub fn judge(c: Counts, s: &[u8], at: Line, numbers: &[u64; MOST]) -> Counts
     if given != 3 {
         return report::broken(c, s, Fault::Given);
     }
-    if bits > 63 {
+    if bits > 16 {
         return report::broken(c, s, Fault::Given);
     }
     if sv39 > 1 {

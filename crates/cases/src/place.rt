@@ -11,8 +11,6 @@ ghost use Rattle.lines.specs.Counted.{oneMore};
 ghost use Rattle.lines.specs.Most.{most};
 ghost use lib.ListN.{length};
 use super::width;
-use page::Kind;
-use page::Mode;
 use address::Virtual;
 use address::place;
 use address::place::Place;
@@ -24,6 +22,8 @@ use lines::line::MOST;
 use lines::report;
 use lines::report::Counts;
 use lines::report::Fault;
+use page::Kind;
+use page::Mode;
 
 // How many given numbers stand before the words of the map.
 const MAP: usize = 14;

@@ -5,12 +5,12 @@ ghost use Prim.Native.Nat.{_≤_, _+_};
 ghost use Rattle.lines.specs.Counted.{oneMore};
 ghost use Rattle.lines.specs.Most.{most};
 ghost use lib.ListN.{length};
-use page::map;
 use lines::line::Line;
 use lines::line::MOST;
 use lines::report;
 use lines::report::Counts;
 use lines::report::Fault;
+use page::map;
 
 fn shown(refused: bool) -> [u64; 1]
     ensures { λ r. ⌜ 1 ≡ length r ⌝ }

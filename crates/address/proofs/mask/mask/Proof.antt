@@ -1,7 +1,5 @@
 -- `address::mask::mask` meets its contract, by the laws of `proofs/Masking.antt` over the number of bits. Assumes nothing.
-use Prim.Native.Nat.{_-_}
 use native.Mathlib.Omega.{arith}
-use lib.Pow.{pow-pos}
 use Rattle.address.proofs.Masking.{mask-none, room, mask-copied, mask-clear, mask-bare}
 use borrow.Author.Needs.{needs}
 use Rattle.address.proofs.mask.mask.Statement.{statement}
@@ -14,13 +12,13 @@ mask-spec =
     (λ c. mask-none _ _ _ (omega arith) (c .if1 .taken))
     (λ c. search needs)
     (λ c κs. search needs)
-    (λ c. omega (arith, pow-pos (64 - c .before .before .args .p)))
+    (λ c. search needs)
     (λ c. search needs)
     (λ c κs. search needs)
-    (λ c. omega (arith, pow-pos (63 - c .before .before .before .before .args .p)))
-    (λ c. omega (arith, pow-pos (64 - c .before .before .before .before .before .args .p)))
     (λ c. search needs)
-    (λ c. let b = c .before .before .before .before .before .args in omega (arith, room (b .p) (b .a) _ (c .before .before .before .power .ensures)))
-    (λ c. rw (c .before .before .if2 .taken) (mask-copied _ _ _ (c .before .before .before .power .ensures) _ (c .before .power2 .ensures) (c .if3 .taken)))
-    (λ c. rw (c .before .before .if2 .taken) (mask-clear _ _ _ (c .before .before .before .power .ensures) _ (c .before .power2 .ensures) (c .if3 .left)))
-    (λ c. rw (c .if2 .left) (mask-bare _ _ _ (c .before .power .ensures))))
+    (λ c. search needs)
+    (λ c. search needs)
+    (λ c. let b = c .before .before .before .before .before .args in omega (arith, room (b .p) (b .a) _ (c .before .before .before .power .ensures .0)))
+    (λ c. rw (c .before .before .if2 .taken) (mask-copied _ _ _ (c .before .before .before .power .ensures .0) _ (c .before .power2 .ensures .0) (c .if3 .taken)))
+    (λ c. rw (c .before .before .if2 .taken) (mask-clear _ _ _ (c .before .before .before .power .ensures .0) _ (c .before .power2 .ensures .0) (c .if3 .left)))
+    (λ c. rw (c .if2 .left) (mask-bare _ _ _ (c .before .power .ensures .0))))
