@@ -1,34 +1,36 @@
 -- What a place says of the access that it was given to: the laws that a step needs.
 -- Assumes nothing.
 use mathlib.Core.Path.{_≡_, refl, sym, _∙_, subst}
-use mathlib.Core.Bool.{Bool, true, false, _&&_}
+use mathlib.Core.Bool.{Bool, true, false}
 use mathlib.Core.List.{List}
-use Prim.Native.Nat.{ℕ, _+_, _%_, _≤_}
+use Prim.Native.Nat.{ℕ, _+_, _-_, _%_, _≤_}
 use native.Mathlib.Omega.{arith}
 use lib.Dec.{leb}
 use borrow.Author.Tests.{leb-true, eqb-true}
-use Rattle.isa.specs.Size.{sizeOf}
-use Rattle.isa.specs.declared.Width.{Width}
-use Rattle.isa.specs.declared.Width.the-variants.{Byte, Half, Word, Double}
+use Rattle.word.proofs.Bools.{both}
 use Rattle.word.proofs.Choices.{first, second}
 use Rattle.word.specs.Choice.{pick}
+use Rattle.isa.specs.Size.{sizeOf}
+use Rattle.isa.specs.declared.Width.the-variants.{Byte, Half, Word, Double}
+use Rattle.isa.specs.declared.Width.{Width}
 use Rattle.page.proofs.Grants.{store-elsewhere, shadow-there}
+use Rattle.page.specs.Access.{isShadow}
+use Rattle.page.specs.Leaf.{leafOf, shadowPage, judgeOf}
+use Rattle.page.specs.Map.{lookupOf}
+use Rattle.page.specs.declared.Kind.the-variants.{Store}
+use Rattle.page.specs.declared.Kind.{Kind}
+use Rattle.page.specs.declared.Regime.{Regime}
+use Rattle.page.specs.declared.leaf.Verdict.the-variants.{Granted, PageFault, AccessFault}
+use Rattle.page.specs.declared.leaf.Verdict.{Verdict}
+use Rattle.page.specs.declared.map.Found.the-variants.{Leaf, Absent}
+use Rattle.page.specs.declared.map.Found.{Found}
 use Rattle.address.specs.Align.{alignedOf}
 use Rattle.address.specs.Cause.{misalignedOf, accessOf, pageOf}
-use Rattle.page.specs.Leaf.{isShadow, leafOf, shadowPage, judgeOf}
-use Rattle.page.specs.Map.{lookupOf}
 use Rattle.address.specs.Mask.{transformedOf}
 use Rattle.address.specs.Place.{withinOf, insideOf, canonicalOf, pageNumber, framed, settleOf, throughOf, pagedPlaceOf, plainPlaceOf, reachedOf, placeOf}
-use Rattle.page.specs.declared.Kind.{Kind}
-use Rattle.page.specs.declared.Kind.the-variants.{Store}
 use Rattle.address.specs.declared.Physical.{Physical}
-use Rattle.address.specs.declared.place.Place.{Place}
 use Rattle.address.specs.declared.place.Place.the-variants.{At, Fault}
-use Rattle.page.specs.declared.leaf.Verdict.{Verdict}
-use Rattle.page.specs.declared.leaf.Verdict.the-variants.{Granted, PageFault, AccessFault}
-use Rattle.page.specs.declared.map.Found.{Found}
-use Rattle.page.specs.declared.map.Found.the-variants.{Leaf, Absent}
-use Rattle.page.specs.declared.Regime.{Regime}
+use Rattle.address.specs.declared.place.Place.{Place}
 
 -- a fault is no place
 never : {A : Type 0} (c t : ℕ) (q : Physical) → Fault c t ≡ At q → A
@@ -37,10 +39,6 @@ never c t q e = absurd (let z : _≡_ {A = ℕ} 0 1 = cc in omega arith)
 behind : (b : Bool) (rest : Place) (c t : ℕ) (q : Physical) → pick b rest (Fault c t) ≡ At q → (b ≡ true) × (rest ≡ At q)
 behind true rest c t q e = (refl, e)
 behind false rest c t q e = never c t q e
-
-both : (a b : Bool) → a && b ≡ true → (a ≡ true) × (b ≡ true)
-both true b h = (refl, h)
-both false b h = (h, cc)
 
 -- all bytes of the access lie in memory
 abbrev pub Within : ℕ → Width → Physical → Type 0
@@ -137,6 +135,10 @@ module _ (g : Regime) (k : Kind) (w : Width) (a : ℕ) (map : List ℕ) (len : �
       go true p = place-paged p .within
       go false p = place-plain p .within
 
+  -- so its index and size stay within memory's length
+  pub place-index : q .0 - 0x80000000 + sizeOf w ≤ len
+  place-index = omega (arith, place-within .0, place-within .1)
+
   -- translation keeps the offset in the page
   pub place-offset : q .0 % 4096 ≡ t % 4096
   place-offset = go (g .paged) refl
@@ -151,35 +153,38 @@ module _ (g : Regime) (k : Kind) (w : Width) (a : ℕ) (map : List ℕ) (len : �
       let p = in-page w t place-aligned in
       (p, rw place-offset p)
 
--- an ordinary store is never given a place on a shadow page
-pub store-off-shadow : (g : Regime) (w : Width) (a : ℕ) (map : List ℕ) (len : ℕ) (q : Physical) → placeOf g Store w a map len ≡ At q
-    → g .paged ≡ true
-    → (e : ℕ) → lookupOf map (pageNumber (transformedOf g Store a)) ≡ Leaf e → shadowPage (g .sse) (leafOf e) ≡ false
-store-off-shadow g w a map len q at p e found =
-    let P = place-paged g Store w a map len q at p in
-    let s : P .leaf ≡ e = same-leaf (P .leaf) e (sym (P .entry) ∙ found) in
-    store-elsewhere g (leafOf e) (subst (λ (x : ℕ). judgeOf g Store (leafOf x) ≡ Granted) s (P .granted))
-  where
-    same-leaf : (x y : ℕ) → Leaf x ≡ Leaf y → x ≡ y
-    same-leaf x y h = cc
+-- under Sv39, with the leaf that lookup gives
+module _ (g : Regime) (k : Kind) (w : Width) (a : ℕ) (map : List ℕ) (len : ℕ) (q : Physical) (at : placeOf g k w a map len ≡ At q) where
+  -- the leaf granted the access
+  pub place-granted : g .paged ≡ true → (e : ℕ) → lookupOf map (pageNumber (transformedOf g k a)) ≡ Leaf e → judgeOf g k (leafOf e) ≡ Granted
+  place-granted p e found =
+      let P = place-paged g k w a map len q at p in
+      let s : P .leaf ≡ e = same-leaf (P .leaf) e (sym (P .entry) ∙ found) in
+      subst (λ (x : ℕ). judgeOf g k (leafOf x) ≡ Granted) s (P .granted)
+    where
+      same-leaf : (x y : ℕ) → Leaf x ≡ Leaf y → x ≡ y
+      same-leaf x y h = cc
 
--- a shadow access is given a place on a shadow page alone
-pub shadow-on-shadow : (g : Regime) (k : Kind) (w : Width) (a : ℕ) (map : List ℕ) (len : ℕ) (q : Physical) → isShadow k ≡ true
-    → (at : placeOf g k w a map len ≡ At q) → (p : g .paged ≡ true)
-    → shadowPage (g .sse) (leafOf (place-paged g k w a map len q at p .leaf)) ≡ true
-shadow-on-shadow g k w a map len q s at p =
-    shadow-there g (leafOf (place-paged g k w a map len q at p .leaf)) k s (place-paged g k w a map len q at p .granted)
+  -- an ordinary store is never given a place on a shadow page
+  pub store-off-shadow : k ≡ Store → g .paged ≡ true
+      → (e : ℕ) → lookupOf map (pageNumber (transformedOf g k a)) ≡ Leaf e → shadowPage (g .sse) (leafOf e) ≡ false
+  store-off-shadow s p e found =
+      store-elsewhere g (leafOf e) (subst (λ (x : Kind). judgeOf g x (leafOf e) ≡ Granted) s (place-granted p e found))
 
--- and under Sv39 alone
-pub shadow-paged : (g : Regime) (k : Kind) (w : Width) (a : ℕ) (map : List ℕ) (len : ℕ) (q : Physical) → isShadow k ≡ true
-    → placeOf g k w a map len ≡ At q → g .paged ≡ true
-shadow-paged g k w a map len q s at = go (g .paged) refl
-  where
-    go : (b : Bool) → g .paged ≡ b → g .paged ≡ true
-    go true p = p
-    go false p =
-        let n : false ≡ true = sym (place-plain g k w a map len q at p .ordinary) ∙ s in
-        cc
+  -- a shadow access is given a place under Sv39 alone
+  pub shadow-paged : isShadow k ≡ true → g .paged ≡ true
+  shadow-paged s = go (g .paged) refl
+    where
+      go : (b : Bool) → g .paged ≡ b → g .paged ≡ true
+      go true p = p
+      go false p =
+          let n : false ≡ true = sym (place-plain g k w a map len q at p .ordinary) ∙ s in
+          cc
+
+  -- and on a shadow page alone
+  pub shadow-on-shadow : isShadow k ≡ true
+      → (e : ℕ) → lookupOf map (pageNumber (transformedOf g k a)) ≡ Leaf e → shadowPage (g .sse) (leafOf e) ≡ true
+  shadow-on-shadow s e found = shadow-there g (leafOf e) k s (place-granted (shadow-paged s) e found)
 
 -- the map counts through the one leaf only
 pub one-leaf : (g : Regime) (k : Kind) (w : Width) (a : ℕ) (map other : List ℕ) (len : ℕ)

@@ -1,11 +1,11 @@
 -- Step 2, masking, over the number of masked bits.
 use mathlib.Core.Bool.{Bool}
 use Prim.Native.Nat.{ℕ, _-_, _%_, _^_}
-use Rattle.page.specs.declared.Kind.{Kind}
-use Rattle.page.specs.declared.Regime.{Regime}
-use Rattle.page.specs.Leaf.{isFetch}
 use Rattle.word.specs.Choice.{pick, Table, _⇒_¦_, otherwise, look}
 use Rattle.word.specs.Sign.{signExtendOf}
+use Rattle.page.specs.Access.{isFetch}
+use Rattle.page.specs.declared.Kind.{Kind}
+use Rattle.page.specs.declared.Regime.{Regime}
 
 -- PMM 0, 2, 3 mean 0, 7, 16 masked bits; no write leaves a 1
 abbrev pub meanings : Table ℕ

@@ -6,22 +6,23 @@ use mathlib.Core.Bool.{Bool, _&&_}
 use mathlib.Core.List.{List}
 use Prim.Native.Nat.{ℕ, _+_, _-_, _*_, _/_, _%_, _^_}
 use lib.Dec.{eqb, leb}
-use Rattle.isa.specs.declared.Width.{Width}
-use Rattle.isa.specs.Size.{sizeOf}
 use Rattle.word.specs.Choice.{pick}
+use Rattle.isa.specs.Size.{sizeOf}
+use Rattle.isa.specs.declared.Width.{Width}
+use Rattle.page.specs.Access.{isShadow}
+use Rattle.page.specs.Leaf.{judgeOf, leafOf}
+use Rattle.page.specs.Map.{lookupOf}
+use Rattle.page.specs.declared.Kind.{Kind}
+use Rattle.page.specs.declared.Regime.{Regime}
+use Rattle.page.specs.declared.leaf.Verdict.the-variants.{Granted, PageFault, AccessFault}
+use Rattle.page.specs.declared.leaf.Verdict.{Verdict}
+use Rattle.page.specs.declared.map.Found.the-variants.{Leaf, Absent}
+use Rattle.page.specs.declared.map.Found.{Found}
 use Rattle.address.specs.Align.{alignedOf}
 use Rattle.address.specs.Cause.{misalignedOf, accessOf, pageOf}
-use Rattle.page.specs.Leaf.{isShadow, judgeOf, leafOf}
-use Rattle.page.specs.Map.{lookupOf}
 use Rattle.address.specs.Mask.{transformedOf}
-use Rattle.page.specs.declared.Kind.{Kind}
-use Rattle.address.specs.declared.place.Place.{Place}
 use Rattle.address.specs.declared.place.Place.the-variants.{At, Fault}
-use Rattle.page.specs.declared.Regime.{Regime}
-use Rattle.page.specs.declared.leaf.Verdict.{Verdict}
-use Rattle.page.specs.declared.leaf.Verdict.the-variants.{Granted, PageFault, AccessFault}
-use Rattle.page.specs.declared.map.Found.{Found}
-use Rattle.page.specs.declared.map.Found.the-variants.{Leaf, Absent}
+use Rattle.address.specs.declared.place.Place.{Place}
 
 -- memory's first byte has physical address 0x80000000
 unfoldable pub withinOf : (len p n : ℕ) → Bool

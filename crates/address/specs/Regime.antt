@@ -1,13 +1,13 @@
 -- Step 1, and which PMM counts.
 use mathlib.Core.Bool.{Bool, false}
 use Prim.Native.Nat.{ℕ}
-use Rattle.address.specs.declared.regime.Control.{Control}
-use Rattle.page.specs.declared.Kind.{Kind}
-use Rattle.page.specs.declared.Kind.the-variants.{Fetch, Load, Store, Push, Pop, Swap}
-use Rattle.page.specs.declared.Mode.{Mode}
-use Rattle.page.specs.declared.Mode.the-variants.{User, Supervisor, Machine}
-use Rattle.page.specs.declared.Regime.{Regime}
 use Rattle.word.specs.Choice.{pick}
+use Rattle.page.specs.declared.Kind.the-variants.{Fetch, Load, Store, Push, Pop, Swap}
+use Rattle.page.specs.declared.Kind.{Kind}
+use Rattle.page.specs.declared.Mode.the-variants.{User, Supervisor, Machine}
+use Rattle.page.specs.declared.Mode.{Mode}
+use Rattle.page.specs.declared.Regime.{Regime}
+use Rattle.address.specs.declared.regime.Control.{Control}
 
 -- in M with MPRV set, MPP
 abbrev pub underMprv : (mode : Mode) → (mprv : Bool) → (mpp : Mode) → Mode

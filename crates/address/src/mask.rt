@@ -2,7 +2,7 @@
 use super::Virtual;
 use page::Kind;
 use page::Regime;
-use page::leaf;
+use page::access;
 ghost use mathlib.Core.Path.{_≡_};
 ghost use Prim.Native.Nat.{_^_, _<_, _≤_};
 ghost use Rattle.address.specs.Mask.{maskedBitsOf, maskOf, transformedOf};
@@ -49,7 +49,7 @@ pub fn transform(g: Regime, k: Kind, a: Virtual) -> Virtual
 {
     let v = a.0;
     let masked = mask(masked_bits(g.pmm), g.paged, v);
-    if leaf::is_fetch(k) {
+    if access::is_fetch(k) {
         return Virtual(v);
     }
     Virtual(masked)

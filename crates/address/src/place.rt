@@ -8,6 +8,7 @@ use isa::Width;
 use isa::size;
 use page::Kind;
 use page::Regime;
+use page::access;
 use page::leaf;
 use page::leaf::Verdict;
 use page::map;
@@ -96,7 +97,7 @@ fn plain(k: Kind, w: Width, t: u64, len: u64) -> Place
     requires { ⌜ len ≤ 2 ^ 20 ⌝ }
     ensures { λ r. ⌜ r ≡ plainPlaceOf k w t len ⌝ }
 {
-    if leaf::is_shadow(k) {
+    if access::is_shadow(k) {
         return Place::Fault(7, t);
     }
     inside(k, w, len, t, t)

@@ -5,21 +5,21 @@ use Prim.Native.Nat.{ℕ}
 use mathlib.Core.Bool.{Bool, true, false}
 use mathlib.Core.List.{List, _∷_, []}
 use Rattle.isa.specs.Size.{sizeOf, widthOf}
-use Rattle.isa.specs.declared.Access.{Access}
 use Rattle.isa.specs.declared.Access.the-variants.{Load, Store, Push, Pop, Swap}
-use Rattle.isa.specs.declared.Condition.{Condition}
+use Rattle.isa.specs.declared.Access.{Access}
 use Rattle.isa.specs.declared.Condition.the-variants.{Equal, NotEqual, Less, NotLess, LessUnsigned, NotLessUnsigned}
-use Rattle.isa.specs.declared.CsrOperation.{CsrOperation}
+use Rattle.isa.specs.declared.Condition.{Condition}
 use Rattle.isa.specs.declared.CsrOperation.the-variants.{Write, Set, Clear}
-use Rattle.isa.specs.declared.CsrSource.{CsrSource}
+use Rattle.isa.specs.declared.CsrOperation.{CsrOperation}
 use Rattle.isa.specs.declared.CsrSource.the-variants.{Register, Immediate}
-use Rattle.isa.specs.declared.Instruction.{Instruction}
-use Rattle.isa.specs.declared.Instruction.the-variants.{Illegal, Lui, Auipc, Jal, Jalr, Branch, Memory, OpImm, OpImm32, Op, Op32}
+use Rattle.isa.specs.declared.CsrSource.{CsrSource}
 use Rattle.isa.specs.declared.Instruction.the-variants.{Fence, Ecall, Ebreak, Sret, Mret, Csr, ReadSsp, MopR, MopRr}
-use Rattle.isa.specs.declared.Operation.{Operation}
+use Rattle.isa.specs.declared.Instruction.the-variants.{Illegal, Lui, Auipc, Jal, Jalr, Branch, Memory, OpImm, OpImm32, Op, Op32}
+use Rattle.isa.specs.declared.Instruction.{Instruction}
 use Rattle.isa.specs.declared.Operation.the-variants.{Add, Sub, Sll, Slt, Sltu, Xor, Srl, Sra, Or, And}
-use Rattle.isa.specs.declared.WordOperation.{WordOperation}
+use Rattle.isa.specs.declared.Operation.{Operation}
 use Rattle.isa.specs.declared.WordOperation.the-variants.{Addw, Subw, Sllw, Srlw, Sraw}
+use Rattle.isa.specs.declared.WordOperation.{WordOperation}
 
 abbrev pub conditionOf : Condition → ℕ
 conditionOf Equal = 0

@@ -7,8 +7,8 @@ use Prim.Native.Nat.{ℕ, _+_, _-_, _/_, _%_, _^_, _<_, _≤_}
 use native.Mathlib.Omega.{arith}
 use lib.ListN.{length, getD, take, drop, length-take, length-drop, length-append, List·getD-append}
 use lib.Seq.{length-take-le, getD-take, getD-drop, getD-append-add, drop-at, take-at, ext-getD}
-use Rattle.memory.specs.Bytes.{number, bytesOf, loadOf, storeOf}
 use Rattle.memory.proofs.Numbers.{length-bytesOf, number-bytes, byte-of}
+use Rattle.memory.specs.Bytes.{number, bytesOf, loadOf, storeOf}
 
 -- a store within memory
 module _ (mem : List ℕ) (at n v : ℕ) (fits : at + n ≤ length mem) where

@@ -9,8 +9,8 @@ use native.Mathlib.Omega.{arith}
 use lib.ListN.{length, getD, drop, set, length-drop}
 use lib.Seq.{sets, sets-eq, slice, slice-cons, take-all, drop-length, getD-drop, drop-drop}
 use borrow.Rule.Slice.PartMut.{midOf, putMid, post-is}
-use Rattle.memory.specs.Bytes.{number, bytesOf, storeOf}
 use Rattle.memory.proofs.Numbers.{length-bytesOf}
+use Rattle.memory.specs.Bytes.{number, bytesOf, storeOf}
 
 -- writing: what is left to be stored, stored, gives the whole
 pub turn : (l : List ℕ) (i n r : ℕ) → i < n

@@ -1,15 +1,15 @@
 -- Sign extension by width.
 use mathlib.Core.Bool.{Bool}
 use Prim.Native.Nat.{ℕ, _*_}
-use Rattle.isa.specs.declared.Width.{Width}
-use Rattle.isa.specs.Size.{sizeOf}
 use Rattle.word.specs.Choice.{pick}
 use Rattle.word.specs.Sign.{signExtendOf}
+use Rattle.isa.specs.Size.{sizeOf}
+use Rattle.isa.specs.declared.Width.{Width}
 
 -- a number of a width's bits, with its sign copied to the bits above
-abbrev pub signedOf : Width → ℕ → ℕ
-signedOf w v = signExtendOf (8 * sizeOf w) v
+abbrev pub signExtended : Width → ℕ → ℕ
+signExtended w v = signExtendOf (8 * sizeOf w) v
 
 -- what a load of a number of this width puts into its register, with the sign extended or not
 unfoldable pub extendOf : Width → Bool → ℕ → ℕ
-extendOf w sign v = pick sign (signedOf w v) v
+extendOf w sign v = pick sign (signExtended w v) v

@@ -10,7 +10,7 @@ ghost use Prim.Native.Nat.{_+_, _≤_};
 ghost use lib.ListN.{length};
 ghost use Rattle.isa.specs.Size.{sizeOf};
 ghost use Rattle.memory.specs.Bytes.{loadOf, storeOf};
-ghost use Rattle.memory.specs.Extend.{extendOf, signedOf};
+ghost use Rattle.memory.specs.Extend.{extendOf, signExtended};
 ghost use Rattle.memory.specs.Refusal.{refusedOf};
 
 // The two loops over the bytes of an access.
@@ -26,7 +26,7 @@ pub fn load(mem: &[u8], at: usize, w: Width) -> u64
 
 // A loaded number, its sign copied to the bits above.
 fn signed(w: Width, v: u64) -> u64
-    ensures { λ r. ⌜ r ≡ signedOf w v ⌝ }
+    ensures { λ r. ⌜ r ≡ signExtended w v ⌝ }
 {
     match w {
         Width::Byte => sign::from_8(v),

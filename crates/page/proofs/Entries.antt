@@ -9,10 +9,11 @@ use native.Mathlib.Omega.{arith}
 use lib.Dec.{eqb, leb, ltb}
 use lib.ListN.{length, getD, drop, length-drop}
 use lib.Seq.{drop-cons}
-use borrow.Author.Tests.{eq-eqb, ne-eqb, le-leb, lt-leb, lt-ltb, le-ltb, ltb-false, leb-false}
+use borrow.Author.Tests.{eq-eqb, ne-eqb, le-leb, lt-leb, lt-ltb, le-ltb, eqb-false, ltb-false, leb-false}
+use Rattle.word.proofs.Bools.{neither}
+use Rattle.word.proofs.Either.{either}
 use Rattle.page.specs.Map.{lookupOf, pagesOf, anyLarge, riseFrom, strictlyRise, refusedOf}
 use Rattle.page.specs.declared.map.Found.the-variants.{Leaf, Absent}
-use Rattle.word.proofs.Either.{either}
 
 -- the next two words
 two : (l : List ℕ) (i : ℕ) → i + 2 ≤ length l → drop i l ≡ getD l i 0 ∷ getD l (i + 1) 0 ∷ drop (i + 2) l
@@ -113,10 +114,6 @@ module _ (map : List ℕ) (i low : ℕ) where
 
 -- an accepted map
 
-neither : (a b : Bool) → a || b ≡ false → (a ≡ false) × (b ≡ false)
-neither true b h = (h, cc)
-neither false b h = (refl, h)
-
 unpack : (low k e : ℕ) (rest : List ℕ) → wrongAt low (k ∷ e ∷ rest) ≡ false
     → (low ≤ k) × (k < 2 ^ 27) × (wrongAt (k + 1) rest ≡ false)
 unfolding wrongAt wrong pagesOf
@@ -162,6 +159,15 @@ finds low (k ∷ e ∷ rest) h (suc i) p =
     rw (double i, ne-eqb k (getD rest (2 * i) 0) (λ s. omega arith)) (finds (k + 1) rest (q .2) i (omega arith))
 
 module _ (map : List ℕ) (ok : refusedOf map ≡ false) where
+  -- it has a leaf for each page number, and at most 64 entries
+  pub map-even : length map % 2 ≡ 0
+  unfolding refusedOf
+  map-even = omega (arith, eqb-false (length map % 2) 1 (neither (eqb (length map % 2) 1) _ ok .0))
+
+  pub map-short : length map ≤ 128
+  unfolding refusedOf
+  map-short = ltb-false 128 (length map) (neither (ltb 128 (length map)) _ (neither (eqb (length map % 2) 1) _ ok .1) .0)
+
   right : wrongAt 0 map ≡ false
   unfolding refusedOf wrongAt
   right =

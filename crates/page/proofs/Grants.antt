@@ -1,24 +1,29 @@
 -- What a granted access says of its leaf.
 -- Assumes nothing.
 use mathlib.Core.Path.{_≡_, refl}
-use mathlib.Core.Bool.{Bool, true, false, not}
+use mathlib.Core.Bool.{Bool, true, false}
 use Prim.Native.Nat.{ℕ}
 use native.Mathlib.Omega.{arith}
-use Rattle.page.specs.Leaf.{isShadow, isFetch, writes, shadowPage, readOnly, hasRight, namesPage, userBit, spares, ownPage, readable, serves, marked, guard, judgeOf}
-use Rattle.page.specs.declared.Kind.{Kind}
+use borrow.Author.Tests.{not-true}
+use Rattle.page.specs.Access.{isShadow, isFetch, writes}
+use Rattle.page.specs.Leaf.{shadowPage, readOnly, hasRight, namesPage, userBit, spares, ownPage, readable, serves, marked, guard, judgeOf}
 use Rattle.page.specs.declared.Kind.the-variants.{Fetch, Load, Store, Push, Pop, Swap}
-use Rattle.page.specs.declared.leaf.Leaf.{Leaf}
-use Rattle.page.specs.declared.leaf.Verdict.{Verdict}
-use Rattle.page.specs.declared.leaf.Verdict.the-variants.{Granted, PageFault, AccessFault}
+use Rattle.page.specs.declared.Kind.{Kind}
 use Rattle.page.specs.declared.Regime.{Regime}
+use Rattle.page.specs.declared.leaf.Leaf.{Leaf}
+use Rattle.page.specs.declared.leaf.Verdict.the-variants.{Granted, PageFault, AccessFault}
+use Rattle.page.specs.declared.leaf.Verdict.{Verdict}
 
-behind-page : (b : Bool) (rest : Verdict) → guard b PageFault rest ≡ Granted → (b ≡ true) × (rest ≡ Granted)
-behind-page true rest e = (refl, e)
-behind-page false rest e = absurd (let z : _≡_ {A = ℕ} 0 1 = cc in omega arith)
+-- a test before a grant held
+behind : (b : Bool) (fault rest : Verdict) → (fault ≡ Granted → ⊥) → guard b fault rest ≡ Granted → (b ≡ true) × (rest ≡ Granted)
+behind true fault rest n e = (refl, e)
+behind false fault rest n e = absurd (n e)
 
-behind-access : (b : Bool) (rest : Verdict) → guard b AccessFault rest ≡ Granted → (b ≡ true) × (rest ≡ Granted)
-behind-access true rest e = (refl, e)
-behind-access false rest e = absurd (let z : _≡_ {A = ℕ} 0 1 = cc in omega arith)
+page-fault : PageFault ≡ Granted → ⊥
+page-fault e = let z : _≡_ {A = ℕ} 0 1 = cc in omega arith
+
+access-fault : AccessFault ≡ Granted → ⊥
+access-fault e = let z : _≡_ {A = ℕ} 0 1 = cc in omega arith
 
 -- every test of steps 5 to 8 held
 pub record Held (g : Regime) (k : Kind) (l : Leaf) : Type 0 where
@@ -33,12 +38,12 @@ module _ (g : Regime) (l : Leaf) where
   pub held : (k : Kind) → judgeOf g k l ≡ Granted → Held g k l
   unfolding judgeOf
   held k e =
-      let (a, e1) = behind-page (namesPage (hasRight l) (shadowPage (g .sse) l) l) _ e in
-      let (b, e2) = behind-page (userBit (g .mode) (g .sum) (isFetch k) (l .u)) _ e1 in
-      let (c, e3) = behind-page (spares (isShadow k) (readOnly l)) _ e2 in
-      let (d, e4) = behind-access (ownPage k (shadowPage (g .sse) l)) _ e3 in
-      let (f, e5) = behind-page (serves k (readable (g .mxr) (shadowPage (g .sse) l) l) l) _ e4 in
-      let (h, e6) = behind-page (marked (writes k) l) _ e5 in
+      let (a, e1) = behind (namesPage (hasRight l) (shadowPage (g .sse) l) l) PageFault _ page-fault e in
+      let (b, e2) = behind (userBit (g .mode) (g .sum) (isFetch k) (l .u)) PageFault _ page-fault e1 in
+      let (c, e3) = behind (spares (isShadow k) (readOnly l)) PageFault _ page-fault e2 in
+      let (d, e4) = behind (ownPage k (shadowPage (g .sse) l)) AccessFault _ access-fault e3 in
+      let (f, e5) = behind (serves k (readable (g .mxr) (shadowPage (g .sse) l) l) l) PageFault _ page-fault e4 in
+      let (h, e6) = behind (marked (writes k) l) PageFault _ page-fault e5 in
       record { names = a; user = b; spared = c; own = d; served = f; marks = h }
 
   -- and where all hold, the access is granted
@@ -48,11 +53,7 @@ module _ (g : Regime) (l : Leaf) where
 
   -- an ordinary store is never granted on a shadow page
   pub store-elsewhere : judgeOf g Store l ≡ Granted → shadowPage (g .sse) l ≡ false
-  store-elsewhere e = flipped (shadowPage (g .sse) l) (held Store e .own)
-    where
-      flipped : (b : Bool) → not b ≡ true → b ≡ false
-      flipped true h = cc
-      flipped false h = refl
+  store-elsewhere e = not-true (shadowPage (g .sse) l) (held Store e .own)
 
   -- a shadow access is granted on a shadow page alone
   pub shadow-there : (k : Kind) → isShadow k ≡ true → judgeOf g k l ≡ Granted → shadowPage (g .sse) l ≡ true

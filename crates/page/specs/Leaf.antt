@@ -2,38 +2,15 @@
 use mathlib.Core.Bool.{Bool, true, false, _&&_, _||_, not}
 use Prim.Native.Nat.{ℕ, _/_, _%_, _^_}
 use lib.Dec.{eqb}
-use Rattle.page.specs.declared.Kind.{Kind}
+use Rattle.page.specs.Access.{isShadow, isFetch, writes}
 use Rattle.page.specs.declared.Kind.the-variants.{Fetch, Load, Store, Push, Pop, Swap}
-use Rattle.page.specs.declared.Mode.{Mode}
+use Rattle.page.specs.declared.Kind.{Kind}
 use Rattle.page.specs.declared.Mode.the-variants.{User, Supervisor, Machine}
+use Rattle.page.specs.declared.Mode.{Mode}
 use Rattle.page.specs.declared.Regime.{Regime}
 use Rattle.page.specs.declared.leaf.Leaf.{Leaf}
-use Rattle.page.specs.declared.leaf.Verdict.{Verdict}
 use Rattle.page.specs.declared.leaf.Verdict.the-variants.{Granted, PageFault, AccessFault}
-
-abbrev pub isShadow : Kind → Bool
-isShadow Fetch = false
-isShadow Load = false
-isShadow Store = false
-isShadow Push = true
-isShadow Pop = true
-isShadow Swap = true
-
-abbrev pub isFetch : Kind → Bool
-isFetch Fetch = true
-isFetch Load = false
-isFetch Store = false
-isFetch Push = false
-isFetch Pop = false
-isFetch Swap = false
-
-abbrev pub writes : Kind → Bool
-writes Fetch = false
-writes Load = false
-writes Store = true
-writes Push = true
-writes Pop = false
-writes Swap = true
+use Rattle.page.specs.declared.leaf.Verdict.{Verdict}
 
 -- bit k of a word
 abbrev pub bitOf : ℕ → ℕ → Bool

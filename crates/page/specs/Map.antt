@@ -4,9 +4,9 @@ use mathlib.Core.List.{List, [], _∷_}
 use Prim.Native.Nat.{ℕ, _%_, _^_}
 use lib.Dec.{eqb, leb, ltb}
 use lib.ListN.{length}
-use Rattle.page.specs.declared.map.Found.{Found}
-use Rattle.page.specs.declared.map.Found.the-variants.{Leaf, Absent}
 use Rattle.word.specs.Choice.{pick}
+use Rattle.page.specs.declared.map.Found.the-variants.{Leaf, Absent}
+use Rattle.page.specs.declared.map.Found.{Found}
 
 -- the leaf word of the first entry that has this page number
 unfoldable pub lookupOf : List ℕ → ℕ → Found

@@ -2,9 +2,12 @@
 use super::Kind;
 use super::Mode;
 use super::Regime;
+use super::access::is_fetch;
+use super::access::is_shadow;
+use super::access::writes;
 ghost use mathlib.Core.Path.{_≡_};
 ghost use Rattle.page.specs.Leaf.{leafOf, shadowPage, readOnly, hasRight, namesPage, userBit, spares, ownPage, readable, serves, marked};
-ghost use Rattle.page.specs.Leaf.{isShadow, isFetch, writes, decideOf, judgeOf};
+ghost use Rattle.page.specs.Leaf.{decideOf, judgeOf};
 
 // An Sv39 leaf: its bits, and whether bits 63:54 are 0.
 pub struct Leaf {
@@ -36,45 +39,6 @@ pub fn bits(e: u64) -> Leaf
         a: e / 64 % 2 == 1,
         d: e / 128 % 2 == 1,
         clear: e / 0x40_0000_0000_0000 == 0,
-    }
-}
-
-pub fn is_shadow(k: Kind) -> bool
-    ensures { λ r. ⌜ r ≡ isShadow k ⌝ }
-{
-    match k {
-        Kind::Fetch => false,
-        Kind::Load => false,
-        Kind::Store => false,
-        Kind::Push => true,
-        Kind::Pop => true,
-        Kind::Swap => true,
-    }
-}
-
-pub fn is_fetch(k: Kind) -> bool
-    ensures { λ r. ⌜ r ≡ isFetch k ⌝ }
-{
-    match k {
-        Kind::Fetch => true,
-        Kind::Load => false,
-        Kind::Store => false,
-        Kind::Push => false,
-        Kind::Pop => false,
-        Kind::Swap => false,
-    }
-}
-
-fn writes(k: Kind) -> bool
-    ensures { λ r. ⌜ r ≡ writes k ⌝ }
-{
-    match k {
-        Kind::Fetch => false,
-        Kind::Load => false,
-        Kind::Store => true,
-        Kind::Push => true,
-        Kind::Pop => false,
-        Kind::Swap => true,
     }
 }
 

@@ -4,6 +4,8 @@
 // Lookup of a page number and judgement of a leaf are kept apart: how an entry is found can change without a
 // word about what it permits.
 
+// What the rules ask of a kind of access.
+pub mod access;
 // The page map: lookup of a page number, and refusal 3.
 pub mod map;
 // Steps 5 to 8: what a leaf lets an access do.

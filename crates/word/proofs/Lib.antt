@@ -1,4 +1,5 @@
 -- The laws of words that belong to no one function.
+pub mod Bools
 pub mod Choices
 pub mod Either
 pub mod Tables

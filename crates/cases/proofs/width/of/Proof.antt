@@ -4,8 +4,8 @@ use mathlib.Core.Path.{_≡_, _∙_, refl, sym}
 use Prim.Native.Nat.{ℕ}
 use native.Mathlib.Omega.{arith}
 use Rattle.isa.specs.Size.{sizeOf}
-use Rattle.isa.specs.declared.Width.{Width}
 use Rattle.isa.specs.declared.Width.the-variants.{Byte, Half, Word, Double}
+use Rattle.isa.specs.declared.Width.{Width}
 use Rattle.cases.proofs.width.of.Statement.{statement}
 use Rattle.cases.proofs.width.of.Tie as tie
 

@@ -6,8 +6,8 @@ use native.Mathlib.Omega.{arith}
 use borrow.Author.Needs.{needs}
 use lib.ListN.{drop}
 use lib.Seq.{slice, slice-empty}
-use Rattle.memory.specs.Bytes.{number, loadOf}
 use Rattle.memory.proofs.Turns.{room, more, more-lt}
+use Rattle.memory.specs.Bytes.{number, loadOf}
 use Rattle.memory.proofs.bytes.read.Statement.{statement}
 use Rattle.memory.proofs.bytes.read.Tie as tie
 use Rattle.memory.proofs.bytes.read.Reads as reads

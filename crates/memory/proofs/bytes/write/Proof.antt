@@ -7,8 +7,8 @@ use native.Mathlib.Nat.{sub-zero}
 use borrow.Author.Needs.{needs}
 use lib.ListN.{length, drop, length-set}
 use lib.Seq.{sets}
-use Rattle.memory.specs.Bytes.{bytesOf}
 use Rattle.memory.proofs.Turns.{turn, stored}
+use Rattle.memory.specs.Bytes.{bytesOf}
 use Rattle.memory.proofs.bytes.write.Statement.{statement}
 use Rattle.memory.proofs.bytes.write.Tie as tie
 use Rattle.memory.proofs.bytes.write.Reads as reads

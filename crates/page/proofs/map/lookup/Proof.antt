@@ -4,8 +4,8 @@ use Prim.Native.Nat.{_-_, _≤_}
 use native.Mathlib.Omega.{arith}
 use borrow.Author.Needs.{needs}
 use lib.ListN.{length, drop}
-use Rattle.page.specs.Map.{lookupOf}
 use Rattle.page.proofs.Entries.{lookup-end, lookup-hit, lookup-miss}
+use Rattle.page.specs.Map.{lookupOf}
 use Rattle.page.proofs.map.lookup.Statement.{statement}
 use Rattle.page.proofs.map.lookup.Tie as tie
 use Rattle.page.proofs.map.lookup.Reads as reads

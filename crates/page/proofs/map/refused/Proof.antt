@@ -4,8 +4,8 @@ use Prim.Native.Nat.{_-_, _%_, _≤_}
 use native.Mathlib.Omega.{arith}
 use borrow.Author.Needs.{needs}
 use lib.ListN.{length, drop}
-use Rattle.page.specs.Map.{refusedOf}
 use Rattle.page.proofs.Entries.{wrongAt, refused-odd, refused-long, refused-start, wrong-end, wrong-low, wrong-large, wrong-next}
+use Rattle.page.specs.Map.{refusedOf}
 use Rattle.page.proofs.map.refused.Statement.{statement}
 use Rattle.page.proofs.map.refused.Tie as tie
 use Rattle.page.proofs.map.refused.Reads as reads
