@@ -14,18 +14,18 @@ misalignedOf Pop = 7
 misalignedOf Swap = 7
 
 -- fetch faults are 1 and 12, load 5 and 13, store and every shadow access 7 and 15
-abbrev pub accessOf : Kind → ℕ
-accessOf Fetch = 1
-accessOf Load = 5
-accessOf Store = 7
-accessOf Push = 7
-accessOf Pop = 7
-accessOf Swap = 7
+abbrev pub accessFaultOf : Kind → ℕ
+accessFaultOf Fetch = 1
+accessFaultOf Load = 5
+accessFaultOf Store = 7
+accessFaultOf Push = 7
+accessFaultOf Pop = 7
+accessFaultOf Swap = 7
 
-abbrev pub pageOf : Kind → ℕ
-pageOf Fetch = 12
-pageOf Load = 13
-pageOf Store = 15
-pageOf Push = 15
-pageOf Pop = 15
-pageOf Swap = 15
+abbrev pub pageFaultOf : Kind → ℕ
+pageFaultOf Fetch = 12
+pageFaultOf Load = 13
+pageFaultOf Store = 15
+pageFaultOf Push = 15
+pageFaultOf Pop = 15
+pageFaultOf Swap = 15

@@ -1,4 +1,5 @@
-pub mod Regime
+pub mod Access
+pub mod Control
 pub mod Mask
 pub mod Align
 pub mod Stack

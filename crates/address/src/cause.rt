@@ -1,7 +1,7 @@
 // The causes of an access's faults, by its kind.
 use page::Kind;
 ghost use mathlib.Core.Path.{_≡_};
-ghost use Rattle.address.specs.Cause.{misalignedOf, accessOf, pageOf};
+ghost use Rattle.address.specs.Cause.{misalignedOf, accessFaultOf, pageFaultOf};
 
 // Also a jump target's, which is a fetch to come.
 pub fn misaligned(k: Kind) -> u64
@@ -17,8 +17,8 @@ pub fn misaligned(k: Kind) -> u64
     }
 }
 
-pub fn access(k: Kind) -> u64
-    ensures { λ r. ⌜ r ≡ accessOf k ⌝ }
+pub fn access_fault(k: Kind) -> u64
+    ensures { λ r. ⌜ r ≡ accessFaultOf k ⌝ }
 {
     match k {
         Kind::Fetch => 1,
@@ -30,8 +30,8 @@ pub fn access(k: Kind) -> u64
     }
 }
 
-pub fn page(k: Kind) -> u64
-    ensures { λ r. ⌜ r ≡ pageOf k ⌝ }
+pub fn page_fault(k: Kind) -> u64
+    ensures { λ r. ⌜ r ≡ pageFaultOf k ⌝ }
 {
     match k {
         Kind::Fetch => 12,

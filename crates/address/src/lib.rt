@@ -1,23 +1,28 @@
 // From address to byte: who may touch what, and where it stands in memory. Document 01's nine steps.
 //
-// Nothing here knows a hart: `Control` is what a hart's mode and CSRs say about accesses, `Regime` what is
-// left of it for one access.
+// Nothing here knows a hart: `Control` is what a hart's mode and CSRs say about accesses.
 
 ghost use mathlib.Core.Path.{_≡_};
 ghost use Prim.Native.Nat.{_-_, _≤_};
+ghost use Rattle.address.specs.Place.{base};
 
-// Step 1, and which PMM counts.
-pub mod regime;
+// The kind of access that a memory instruction makes.
+pub mod access;
+// Step 1, and what goes by the effective mode.
+pub mod control;
 // Step 2.
 pub mod mask;
 // Step 3.
 pub mod align;
 // Where a push goes.
 pub mod stack;
-// Steps 3 to 9 in their order.
+// The nine steps in their order.
 pub mod place;
 // The causes of faults.
 pub mod cause;
+
+// The physical address of memory's first byte.
+const BASE: u64 = 0x8000_0000;
 
 // An address as the program names it. A `Physical` is made from one by translation alone.
 pub struct Virtual(pub u64);
@@ -35,9 +40,9 @@ impl Physical {
 
     // Where in memory it stands: the index of its byte.
     pub fn index(self) -> usize
-        requires { ⌜ 0x80000000 ≤ self .0 ⌝ }
-        ensures { λ r. ⌜ r ≡ self .0 - 0x80000000 ⌝ }
+        requires { ⌜ base ≤ self .0 ⌝ }
+        ensures { λ r. ⌜ r ≡ self .0 - base ⌝ }
     {
-        (self.0 - 0x8000_0000) as usize
+        (self.0 - BASE) as usize
     }
 }

@@ -1,15 +1,17 @@
 // Step 2, masking: the one place that makes the transformed address.
 use super::Virtual;
+use super::control;
+use super::control::Control;
 use page::Kind;
-use page::Regime;
-use page::access;
+use page::Mode;
+use page::kinds;
 ghost use mathlib.Core.Path.{_≡_};
 ghost use Prim.Native.Nat.{_^_, _<_, _≤_};
-ghost use Rattle.address.specs.Mask.{maskedBitsOf, maskOf, transformedOf};
+ghost use Rattle.address.specs.Mask.{pmlenOf, maskOf, transformedOf};
 
-// The number of masked bits that a PMM means.
-fn masked_bits(pmm: u8) -> u64
-    ensures { λ r. ⌜ (r ≡ maskedBitsOf pmm) × (r ≤ 16) ⌝ }
+// PMLEN: the number of masked bits that a PMM means.
+fn pmlen(pmm: u8) -> u64
+    ensures { λ r. ⌜ (r ≡ pmlenOf pmm) × (r ≤ 16) ⌝ }
 {
     match pmm {
         2 => 7,
@@ -43,13 +45,13 @@ pub fn mask(p: u64, paged: bool, a: u64) -> u64
     low
 }
 
-// A fetch is not masked.
-pub fn transform(g: Regime, k: Kind, a: Virtual) -> Virtual
-    ensures { λ r. ⌜ r .0 ≡ transformedOf g k (a .0) ⌝ }
+// By the effective mode. A fetch is not masked.
+pub fn transform(c: Control, m: Mode, k: Kind, a: Virtual) -> Virtual
+    ensures { λ r. ⌜ r .0 ≡ transformedOf c m k (a .0) ⌝ }
 {
     let v = a.0;
-    let masked = mask(masked_bits(g.pmm), g.paged, v);
-    if access::is_fetch(k) {
+    let masked = mask(pmlen(control::pmm(c, m)), control::paged(c, m), v);
+    if kinds::is_fetch(k) {
         return Virtual(v);
     }
     Virtual(masked)

@@ -12,10 +12,9 @@ ghost use Rattle.lines.specs.Most.{most};
 ghost use lib.ListN.{length};
 use super::width;
 use address::Virtual;
+use address::control::Control;
 use address::place;
 use address::place::Place;
-use address::regime;
-use address::regime::Control;
 use isa::size;
 use lines::line::Line;
 use lines::line::MOST;
@@ -120,9 +119,8 @@ fn run(n: &[u64; MOST], map: &[u64], len: u64) -> [u64; 3]
     requires { ⌜ len ≤ 2 ^ 20 ⌝ }
     ensures { λ r. ⌜ 3 ≡ length r ⌝ }
 {
-    let k = kind(n[0]);
-    let g = regime::of(control(n), k);
-    shown(place::translate(g, k, width::of(n[1]), Virtual(n[12]), map, len))
+    let a = Virtual(n[12]);
+    shown(place::translate(control(n), kind(n[0]), width::of(n[1]), a, map, len))
 }
 
 pub fn judge(c: Counts, s: &[u8], at: Line, numbers: &[u64; MOST]) -> Counts

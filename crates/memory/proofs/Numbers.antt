@@ -11,7 +11,7 @@ use Rattle.memory.specs.Bytes.{number, bytesOf}
 pub length-bytesOf : (n v : ℕ) → length (bytesOf n v) ≡ n
 unfolding bytesOf
 length-bytesOf zero v = refl
-length-bytesOf (suc n) v = ap suc (length-bytesOf n (v / 256))
+length-bytesOf (suc n) v = ap suc (length-bytesOf n _)
 
 -- n bytes of v hold v, as far as n bytes go
 pub number-bytes : (n v : ℕ) → number (bytesOf n v) ≡ v % 256 ^ n

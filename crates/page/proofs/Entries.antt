@@ -9,9 +9,10 @@ use native.Mathlib.Omega.{arith}
 use lib.Dec.{eqb, leb, ltb}
 use lib.ListN.{length, getD, drop, length-drop}
 use lib.Seq.{drop-cons}
-use borrow.Author.Tests.{eq-eqb, ne-eqb, le-leb, lt-leb, lt-ltb, le-ltb, eqb-false, ltb-false, leb-false}
+use borrow.Author.Tests.{eq-eqb, ne-eqb, le-leb, lt-leb, lt-ltb, le-ltb, eqb-true, eqb-false, ltb-false, leb-false}
 use Rattle.word.proofs.Bools.{neither}
 use Rattle.word.proofs.Either.{either}
+use Rattle.word.specs.Choice.{pick}
 use Rattle.page.specs.Map.{lookupOf, pagesOf, anyLarge, riseFrom, strictlyRise, refusedOf}
 use Rattle.page.specs.declared.map.Found.the-variants.{Leaf, Absent}
 
@@ -39,6 +40,36 @@ module _ (map : List ℕ) (i p : ℕ) where
   pub lookup-miss : i + 2 ≤ length map → (getD map i 0 ≡ p → ⊥) → lookupOf (drop i map) p ≡ lookupOf (drop (i + 2) map) p
   unfolding lookupOf
   lookup-miss h e = rw (two map i h, ne-eqb (getD map i 0) p e)
+
+-- two words an entry
+double : (i : ℕ) → 2 * suc i ≡ suc (suc (2 * i))
+double i = omega arith
+
+-- an entry of the map: where it stands
+pub record Stands (map : List ℕ) (page leaf : ℕ) : Type 0 where
+  pub place : ℕ
+  pub inside : 2 * place + 2 ≤ length map
+  pub number : getD map (2 * place) 0 ≡ page
+  pub word : getD map (suc (2 * place)) 0 ≡ leaf
+
+none : {A : Type 0} (leaf : ℕ) → Absent ≡ Leaf leaf → A
+none leaf e = absurd (let z : _≡_ {A = ℕ} 0 1 = cc in omega arith)
+
+-- the first entry, or one of the rest
+either-entry : {k l page leaf : ℕ} {rest : List ℕ} (b : Bool) → eqb k page ≡ b → pick b (Leaf l) (lookupOf rest page) ≡ Leaf leaf
+    → (lookupOf rest page ≡ Leaf leaf → Stands rest page leaf) → Stands (k ∷ l ∷ rest) page leaf
+either-entry {k} {l} {page} {leaf} {rest} true h f more =
+    record { place = 0; inside = omega arith; number = eqb-true k page h; word = cc }
+either-entry {k} {l} {page} {leaf} {rest} false h f more =
+    let s = more f in
+    record { place = suc (s .place); inside = omega (arith, s .inside); number = rw double (s .number); word = rw double (s .word) }
+
+-- what lookup finds is an entry
+pub lookup-stands : (map : List ℕ) (page leaf : ℕ) → lookupOf map page ≡ Leaf leaf → Stands map page leaf
+unfolding lookupOf
+lookup-stands [] page leaf e = none leaf e
+lookup-stands (k ∷ []) page leaf e = none leaf e
+lookup-stands (k ∷ l ∷ rest) page leaf e = either-entry (eqb k page) refl e (lookup-stands rest page leaf)
 
 -- what the loop of refusal 3 has still to ask: a number too low or too large from here on
 unfoldable pub wrong : ℕ → List ℕ → Bool
@@ -112,6 +143,11 @@ module _ (map : List ℕ) (i low : ℕ) where
   unfolding wrongAt wrong pagesOf
   wrong-next h e g = rw (two map i h, le-ltb (getD map i 0) low e, lt-leb (2 ^ 27) (getD map i 0) g)
 
+-- a map of no entry is accepted
+pub empty-accepted : refusedOf [] ≡ false
+unfolding refusedOf anyLarge strictlyRise pagesOf
+empty-accepted = refl
+
 -- an accepted map
 
 unpack : (low k e : ℕ) (rest : List ℕ) → wrongAt low (k ∷ e ∷ rest) ≡ false
@@ -121,9 +157,6 @@ unpack low k e rest h =
     let q = neither (ltb k low) (leb (2 ^ 27) k || wrong (k + 1) (pagesOf rest)) h in
     let r = neither (leb (2 ^ 27) k) (wrong (k + 1) (pagesOf rest)) (q .1) in
     (ltb-false k low (q .0), leb-false (2 ^ 27) k (r .0), r .1)
-
-double : (i : ℕ) → 2 * suc i ≡ suc (suc (2 * i))
-double i = omega arith
 
 bounded : (low : ℕ) (map : List ℕ) → wrongAt low map ≡ false
     → (i : ℕ) → 2 * i + 2 ≤ length map → (low ≤ getD map (2 * i) 0) × (getD map (2 * i) 0 < 2 ^ 27)

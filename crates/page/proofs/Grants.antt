@@ -5,8 +5,8 @@ use mathlib.Core.Bool.{Bool, true, false}
 use Prim.Native.Nat.{ℕ}
 use native.Mathlib.Omega.{arith}
 use borrow.Author.Tests.{not-true}
-use Rattle.page.specs.Access.{isShadow, isFetch, writes}
-use Rattle.page.specs.Leaf.{shadowPage, readOnly, hasRight, namesPage, userBit, spares, ownPage, readable, serves, marked, guard, judgeOf}
+use Rattle.page.specs.Kinds.{isShadow, isFetch, writes}
+use Rattle.page.specs.Leaf.{shadowPage, readOnly, hasRight, validLeaf, userBit, offReadOnly, ownPage, readable, permits, accessedDirty, guard, judgeOf}
 use Rattle.page.specs.declared.Kind.the-variants.{Fetch, Load, Store, Push, Pop, Swap}
 use Rattle.page.specs.declared.Kind.{Kind}
 use Rattle.page.specs.declared.Regime.{Regime}
@@ -27,29 +27,29 @@ access-fault e = let z : _≡_ {A = ℕ} 0 1 = cc in omega arith
 
 -- every test of steps 5 to 8 held
 pub record Held (g : Regime) (k : Kind) (l : Leaf) : Type 0 where
-  pub names : namesPage (hasRight l) (shadowPage (g .sse) l) l ≡ true
+  pub valid : validLeaf (hasRight l) (shadowPage (g .sse) l) l ≡ true
   pub user : userBit (g .mode) (g .sum) (isFetch k) (l .u) ≡ true
-  pub spared : spares (isShadow k) (readOnly l) ≡ true
+  pub off : offReadOnly (isShadow k) (readOnly l) ≡ true
   pub own : ownPage k (shadowPage (g .sse) l) ≡ true
-  pub served : serves k (readable (g .mxr) (shadowPage (g .sse) l) l) l ≡ true
-  pub marks : marked (writes k) l ≡ true
+  pub permitted : permits k (readable (g .mxr) (shadowPage (g .sse) l) l) l ≡ true
+  pub stamped : accessedDirty (writes k) l ≡ true
 
 module _ (g : Regime) (l : Leaf) where
   pub held : (k : Kind) → judgeOf g k l ≡ Granted → Held g k l
   unfolding judgeOf
   held k e =
-      let (a, e1) = behind (namesPage (hasRight l) (shadowPage (g .sse) l) l) PageFault _ page-fault e in
+      let (a, e1) = behind (validLeaf (hasRight l) (shadowPage (g .sse) l) l) PageFault _ page-fault e in
       let (b, e2) = behind (userBit (g .mode) (g .sum) (isFetch k) (l .u)) PageFault _ page-fault e1 in
-      let (c, e3) = behind (spares (isShadow k) (readOnly l)) PageFault _ page-fault e2 in
+      let (c, e3) = behind (offReadOnly (isShadow k) (readOnly l)) PageFault _ page-fault e2 in
       let (d, e4) = behind (ownPage k (shadowPage (g .sse) l)) AccessFault _ access-fault e3 in
-      let (f, e5) = behind (serves k (readable (g .mxr) (shadowPage (g .sse) l) l) l) PageFault _ page-fault e4 in
-      let (h, e6) = behind (marked (writes k) l) PageFault _ page-fault e5 in
-      record { names = a; user = b; spared = c; own = d; served = f; marks = h }
+      let (f, e5) = behind (permits k (readable (g .mxr) (shadowPage (g .sse) l) l) l) PageFault _ page-fault e4 in
+      let (h, e6) = behind (accessedDirty (writes k) l) PageFault _ page-fault e5 in
+      record { valid = a; user = b; off = c; own = d; permitted = f; stamped = h }
 
   -- and where all hold, the access is granted
   pub granted : (k : Kind) → Held g k l → judgeOf g k l ≡ Granted
   unfolding judgeOf
-  granted k h = rw (h .names, h .user, h .spared, h .own, h .served, h .marks)
+  granted k h = rw (h .valid, h .user, h .off, h .own, h .permitted, h .stamped)
 
   -- an ordinary store is never granted on a shadow page
   pub store-elsewhere : judgeOf g Store l ≡ Granted → shadowPage (g .sse) l ≡ false

@@ -2,7 +2,7 @@
 use mathlib.Core.Bool.{Bool, true, false, _&&_, _||_, not}
 use Prim.Native.Nat.{ℕ, _/_, _%_, _^_}
 use lib.Dec.{eqb}
-use Rattle.page.specs.Access.{isShadow, isFetch, writes}
+use Rattle.page.specs.Kinds.{isShadow, isFetch, writes}
 use Rattle.page.specs.declared.Kind.the-variants.{Fetch, Load, Store, Push, Pop, Swap}
 use Rattle.page.specs.declared.Kind.{Kind}
 use Rattle.page.specs.declared.Mode.the-variants.{User, Supervisor, Machine}
@@ -41,8 +41,8 @@ abbrev pub hasRight : Leaf → Bool
 hasRight l = l .r || (l .w || l .x)
 
 -- step 5: no page if V is 0, or R, W and X are all 0, or bits 63:54 are not 0, or W without R (except a shadow page)
-abbrev pub namesPage : (right shadow : Bool) → Leaf → Bool
-namesPage right shadow l = l .v && (right && (l .clear && (not (l .w) || (l .r || shadow))))
+abbrev pub validLeaf : (right shadow : Bool) → Leaf → Bool
+validLeaf right shadow l = l .v && (right && (l .clear && (not (l .w) || (l .r || shadow))))
 
 -- step 6: U mode needs the U bit; S mode must not fetch from such a page and needs SUM for data. M has no pages
 abbrev pub userBit : Mode → (sum fetch u : Bool) → Bool
@@ -51,8 +51,8 @@ userBit Supervisor sum fetch u = not u || (not fetch && sum)
 userBit Machine sum fetch u = true
 
 -- step 7: a shadow access to a read-only page is a store page fault
-abbrev pub spares : (shadow only : Bool) → Bool
-spares shadow only = not shadow || not only
+abbrev pub offReadOnly : (shadow only : Bool) → Bool
+offReadOnly shadow only = not shadow || not only
 
 -- step 7: a shadow access to any other page that is no shadow page, an ordinary store to a shadow page, a fetch from one
 abbrev pub ownPage : Kind → (shadow : Bool) → Bool
@@ -68,17 +68,17 @@ abbrev pub readable : (mxr shadow : Bool) → Leaf → Bool
 readable mxr shadow l = l .r || ((l .x && mxr) || shadow)
 
 -- step 8: fetch needs X, store needs W; of a shadow access step 7 has asked all
-abbrev pub serves : Kind → (read : Bool) → Leaf → Bool
-serves Fetch read l = l .x
-serves Load read l = read
-serves Store read l = l .w
-serves Push read l = true
-serves Pop read l = true
-serves Swap read l = true
+abbrev pub permits : Kind → (read : Bool) → Leaf → Bool
+permits Fetch read l = l .x
+permits Load read l = read
+permits Store read l = l .w
+permits Push read l = true
+permits Pop read l = true
+permits Swap read l = true
 
 -- step 8: A must be set, and D for store, push and swap
-abbrev pub marked : (writes : Bool) → Leaf → Bool
-marked writes l = l .a && (not writes || l .d)
+abbrev pub accessedDirty : (writes : Bool) → Leaf → Bool
+accessedDirty writes l = l .a && (not writes || l .d)
 
 -- the test must hold, else this is the verdict
 abbrev pub guard : Bool → Verdict → Verdict → Verdict
@@ -86,21 +86,23 @@ guard true fault rest = rest
 guard false fault rest = fault
 
 -- the first test that fails decides
-abbrev pub decideOf : (names user spares own serves marked : Bool) → Verdict
-decideOf names user spares own serves marked =
-    guard names PageFault
+abbrev pub decideOf : (valid user off own permits stamped : Bool) → Verdict
+decideOf valid user off own permits stamped =
+    guard valid PageFault
     (guard user PageFault
-    (guard spares PageFault
+    (guard off PageFault
     (guard own AccessFault
-    (guard serves PageFault
-    (guard marked PageFault Granted)))))
+    (guard permits PageFault
+    (guard stamped PageFault Granted)))))
 
+-- steps 5 to 8: whether the leaf is a page's; its U bit; a shadow access off read-only pages; pages of the access's own kind;
+-- the right that the access needs; A and D
 unfoldable pub judgeOf : Regime → Kind → Leaf → Verdict
 judgeOf g k l =
     decideOf
-    (namesPage (hasRight l) (shadowPage (g .sse) l) l)
+    (validLeaf (hasRight l) (shadowPage (g .sse) l) l)
     (userBit (g .mode) (g .sum) (isFetch k) (l .u))
-    (spares (isShadow k) (readOnly l))
+    (offReadOnly (isShadow k) (readOnly l))
     (ownPage k (shadowPage (g .sse) l))
-    (serves k (readable (g .mxr) (shadowPage (g .sse) l) l) l)
-    (marked (writes k) l)
+    (permits k (readable (g .mxr) (shadowPage (g .sse) l) l) l)
+    (accessedDirty (writes k) l)

@@ -1,3 +1,3 @@
-pub mod Access
+pub mod Kinds
 pub mod Map
 pub mod Leaf

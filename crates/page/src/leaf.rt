@@ -2,11 +2,11 @@
 use super::Kind;
 use super::Mode;
 use super::Regime;
-use super::access::is_fetch;
-use super::access::is_shadow;
-use super::access::writes;
+use super::kinds::is_fetch;
+use super::kinds::is_shadow;
+use super::kinds::writes;
 ghost use mathlib.Core.Path.{_≡_};
-ghost use Rattle.page.specs.Leaf.{leafOf, shadowPage, readOnly, hasRight, namesPage, userBit, spares, ownPage, readable, serves, marked};
+ghost use Rattle.page.specs.Leaf.{leafOf, shadowPage, readOnly, hasRight, validLeaf, userBit, offReadOnly, ownPage, readable, permits, accessedDirty};
 ghost use Rattle.page.specs.Leaf.{decideOf, judgeOf};
 
 // An Sv39 leaf: its bits, and whether bits 63:54 are 0.
@@ -84,8 +84,8 @@ fn has_right(l: Leaf) -> bool
 }
 
 // Step 5. W without R is a shadow page's alone.
-fn names_page(right: bool, shadow: bool, l: Leaf) -> bool
-    ensures { λ r. ⌜ r ≡ namesPage right shadow l ⌝ }
+fn valid_leaf(right: bool, shadow: bool, l: Leaf) -> bool
+    ensures { λ r. ⌜ r ≡ validLeaf right shadow l ⌝ }
 {
     if l.v {
         if right {
@@ -123,8 +123,8 @@ fn user_bit(mode: Mode, sum: bool, fetch: bool, u: bool) -> bool
 }
 
 // Step 7: a shadow access stays off read-only pages.
-fn spares(shadow: bool, only: bool) -> bool
-    ensures { λ r. ⌜ r ≡ spares shadow only ⌝ }
+fn off_read_only(shadow: bool, only: bool) -> bool
+    ensures { λ r. ⌜ r ≡ offReadOnly shadow only ⌝ }
 {
     if shadow {
         return !only;
@@ -162,8 +162,8 @@ fn readable(mxr: bool, shadow: bool, l: Leaf) -> bool
 }
 
 // Step 8. Of a shadow access step 7 has asked all.
-fn serves(k: Kind, read: bool, l: Leaf) -> bool
-    ensures { λ r. ⌜ r ≡ serves k read l ⌝ }
+fn permits(k: Kind, read: bool, l: Leaf) -> bool
+    ensures { λ r. ⌜ r ≡ permits k read l ⌝ }
 {
     match k {
         Kind::Fetch => l.x,
@@ -176,8 +176,8 @@ fn serves(k: Kind, read: bool, l: Leaf) -> bool
 }
 
 // Step 8: A, and D where the access writes.
-fn marked(writes: bool, l: Leaf) -> bool
-    ensures { λ r. ⌜ r ≡ marked writes l ⌝ }
+fn accessed_dirty(writes: bool, l: Leaf) -> bool
+    ensures { λ r. ⌜ r ≡ accessedDirty writes l ⌝ }
 {
     if l.a {
         if writes {
@@ -189,15 +189,15 @@ fn marked(writes: bool, l: Leaf) -> bool
 }
 
 // The tests of steps 5 to 8 in their order: the first that fails decides.
-fn decide(names: bool, user: bool, spares: bool, own: bool, serves: bool, marked: bool) -> Verdict
-    ensures { λ r. ⌜ r ≡ decideOf names user spares own serves marked ⌝ }
+fn decide(valid: bool, user: bool, off: bool, own: bool, permits: bool, stamped: bool) -> Verdict
+    ensures { λ r. ⌜ r ≡ decideOf valid user off own permits stamped ⌝ }
 {
-    if names {
+    if valid {
         if user {
-            if spares {
+            if off {
                 if own {
-                    if serves {
-                        if marked {
+                    if permits {
+                        if stamped {
                             return Verdict::Granted;
                         }
                         return Verdict::PageFault;
@@ -221,11 +221,11 @@ pub fn judge(g: Regime, k: Kind, l: Leaf) -> Verdict
     let shadow = shadow_page(g.sse, l);
     let read = readable(g.mxr, shadow, l);
     decide(
-        names_page(has_right(l), shadow, l),
+        valid_leaf(has_right(l), shadow, l),
         user_bit(mode, g.sum, is_fetch(k), l.u),
-        spares(is_shadow(k), read_only(l)),
+        off_read_only(is_shadow(k), read_only(l)),
         own_page(k, shadow),
-        serves(k, read, l),
-        marked(writes(k), l),
+        permits(k, read, l),
+        accessed_dirty(writes(k), l),
     )
 }

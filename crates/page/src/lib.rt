@@ -5,7 +5,7 @@
 // word about what it permits.
 
 // What the rules ask of a kind of access.
-pub mod access;
+pub mod kinds;
 // The page map: lookup of a page number, and refusal 3.
 pub mod map;
 // Steps 5 to 8: what a leaf lets an access do.
@@ -27,12 +27,9 @@ pub enum Mode {
     Machine,
 }
 
-// What one access is judged by: the effective mode and its PMM. `paged` says that Sv39 is in force, so it
-// is false in M.
+// What a leaf is judged by, beside the kind of access: the effective mode, SUM, MXR and menvcfg.SSE.
 pub struct Regime {
     pub mode: Mode,
-    pub paged: bool,
-    pub pmm: u8,
     pub sum: bool,
     pub mxr: bool,
     pub sse: bool,

@@ -11,8 +11,16 @@ returns c = rw (sym (c .before .is-fetch .ensures) ∙ c .if1 .taken)
 
 returns-2 : tie.Need-returns-2
 unfolding transformedOf
-returns-2 c = rw (sym (c .before .is-fetch .ensures) ∙ c .if1 .left, ← c .before .before .before .masked-bits .ensures .0) (c .before .before .mask .ensures)
+returns-2 c = let b = c .before .before in rw (sym (c .before .is-fetch .ensures) ∙ c .if1 .left, ← b .before .before .before .pmm .ensures, ← b .before .before .pmlen .ensures .0, ← b .before .paged .ensures) (b .mask .ensures)
 
 pub transform-spec : {M : Type 1} → statement M
 transform-spec =
-    tie.close (tie.spec (λ c κs. search needs) (λ c κs. search needs) (λ c κs. search needs) returns returns-2)
+    tie.close
+    (tie.spec
+    (λ c κs. search needs)
+    (λ c κs. search needs)
+    (λ c κs. search needs)
+    (λ c κs. search needs)
+    (λ c κs. search needs)
+    returns
+    returns-2)

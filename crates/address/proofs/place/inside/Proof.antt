@@ -11,7 +11,8 @@ returns c = rw (← c .before .before .bytes .ensures .0, sym (c .before .within
 
 returns-2 : tie.Need-returns-2
 unfolding insideOf
-returns-2 c = rw (← c .before .before .before .bytes .ensures .0, sym (c .before .before .within .ensures) ∙ c .before .if1 .left, c .access .ensures)
+returns-2 c = rw (← c .before .before .before .bytes .ensures .0, sym (c .before .before .within .ensures) ∙ c .before .if1 .left, c .access-fault .ensures)
 
 pub inside-spec : {M : Type 1} → statement M
-inside-spec = tie.close (tie.spec (λ c κs. search needs) (λ c κs. search needs) returns (λ c κs. search needs) returns-2)
+inside-spec =
+    tie.close (tie.spec (λ c κs. search needs) (λ c κs. search needs) returns (λ c κs. search needs) returns-2)

@@ -10,11 +10,11 @@ returns c = rw (c .before .enum-told .given .1) (c .inside .ensures)
 
 returns-2 : tie.Need-returns-2
 unfolding settleOf
-returns-2 c = rw (c .before .enum-told2 .given .1, c .page .ensures)
+returns-2 c = rw (c .before .enum-told2 .given .1, c .page-fault .ensures)
 
 returns-3 : tie.Need-returns-3
 unfolding settleOf
-returns-3 c = rw (c .before .enum-told3 .given .1, c .access .ensures)
+returns-3 c = rw (c .before .enum-told3 .given .1, c .access-fault .ensures)
 
 pub settle-spec : {M : Type 1} → statement M
 settle-spec =

@@ -6,11 +6,11 @@ use Rattle.address.proofs.place.through.Tie as tie
 
 returns : tie.Need-returns
 unfolding throughOf
-returns c = rw (c .before .enum-told .given .1, c .page .ensures)
+returns c = rw (c .before .enum-told .given .1, c .page-fault .ensures)
 
 returns-2 : tie.Need-returns-2
 unfolding throughOf
-returns-2 c = rw (c .before .before .before .before .f .given .1, ← c .before .before .bits .ensures, ← c .before .judge .ensures) (c .settle .ensures)
+returns-2 c = rw (c .before .before .before .before .before .f .given .1, ← c .before .before .bits .ensures, ← c .before .judge .ensures) (c .settle .ensures)
 
 pub through-spec : {M : Type 1} → statement M
 through-spec =

@@ -1,8 +1,8 @@
 -- `address::place::within` meets its contract: the sum is taken only where it cannot overflow. Assumes nothing.
 use Prim.Native.Nat.{_+_}
-use borrow.Author.Tests.{lt-leb, le-leb}
 use native.Mathlib.Omega.{arith}
-use Rattle.address.specs.Place.{withinOf}
+use borrow.Author.Tests.{lt-leb, le-leb}
+use Rattle.address.specs.Place.{base, withinOf}
 use borrow.Author.Needs.{needs}
 use Rattle.address.proofs.place.within.Statement.{statement}
 use Rattle.address.proofs.place.within.Tie as tie
@@ -13,7 +13,7 @@ returns c = rw (lt-leb _ _ (c .if1 .taken))
 
 returns-2 : tie.Need-returns-2
 unfolding withinOf
-returns-2 c = let a = c .before .before .args in rw (le-leb _ _ (c .before .if1 .left), lt-leb (a .p + a .n) (0x80000000 + a .len) (omega arith))
+returns-2 c = let a = c .before .before .args in rw (le-leb _ _ (c .before .if1 .left), lt-leb (a .p + a .n) (base + a .len) (omega arith))
 
 returns-3 : tie.Need-returns-3
 unfolding withinOf

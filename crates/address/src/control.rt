@@ -1,9 +1,9 @@
-// Step 1, the effective mode of an access, and which PMM counts (the first sentence of step 2).
+// Step 1, the effective mode of an access, and what goes by it: which PMM counts, and whether Sv39 is in force.
 use page::Kind;
 use page::Mode;
 use page::Regime;
 ghost use mathlib.Core.Path.{_≡_};
-ghost use Rattle.address.specs.Regime.{effectiveOf, underMprv, pmmOf, pagedOf, regimeOf};
+ghost use Rattle.address.specs.Control.{underMprv, effectiveOf, modeOf, pmmOf, pagedOf, regimeOf};
 
 // What a hart's mode and CSRs say about accesses: sv39 is satp.MODE 8, sse is menvcfg.SSE, and the last three
 // are the PMMs of senvcfg, menvcfg and mseccfg.
@@ -36,7 +36,7 @@ fn under_mprv(mode: Mode, mprv: bool, mpp: Mode) -> Mode
     }
 }
 
-fn effective(k: Kind, mode: Mode, mprv: bool, mpp: Mode) -> Mode
+fn of_kind(k: Kind, mode: Mode, mprv: bool, mpp: Mode) -> Mode
     ensures { λ r. ⌜ r ≡ effectiveOf k mode mprv mpp ⌝ }
 {
     match k {
@@ -49,36 +49,43 @@ fn effective(k: Kind, mode: Mode, mprv: bool, mpp: Mode) -> Mode
     }
 }
 
-fn pmm(mode: Mode, senvcfg: u8, menvcfg: u8, mseccfg: u8) -> u8
-    ensures { λ r. ⌜ r ≡ pmmOf mode senvcfg menvcfg mseccfg ⌝ }
+// The effective mode.
+pub fn effective(c: Control, k: Kind) -> Mode
+    ensures { λ r. ⌜ r ≡ modeOf c k ⌝ }
 {
-    match mode {
-        Mode::User => senvcfg,
-        Mode::Supervisor => menvcfg,
-        Mode::Machine => mseccfg,
+    let mode = c.mode;
+    let mpp = c.mpp;
+    of_kind(k, mode, c.mprv, mpp)
+}
+
+// The PMM that counts in an effective mode.
+pub fn pmm(c: Control, m: Mode) -> u8
+    ensures { λ r. ⌜ r ≡ pmmOf m (c .upmm) (c .spmm) (c .mpmm) ⌝ }
+{
+    match m {
+        Mode::User => c.upmm,
+        Mode::Supervisor => c.spmm,
+        Mode::Machine => c.mpmm,
     }
 }
 
-fn paged(mode: Mode, sv39: bool) -> bool
-    ensures { λ r. ⌜ r ≡ pagedOf mode sv39 ⌝ }
+// Whether Sv39 is in force in an effective mode.
+pub fn paged(c: Control, m: Mode) -> bool
+    ensures { λ r. ⌜ r ≡ pagedOf m (c .sv39) ⌝ }
 {
-    match mode {
-        Mode::User => sv39,
-        Mode::Supervisor => sv39,
+    match m {
+        Mode::User => c.sv39,
+        Mode::Supervisor => c.sv39,
         Mode::Machine => false,
     }
 }
 
-pub fn of(c: Control, k: Kind) -> Regime
-    ensures { λ r. ⌜ r ≡ regimeOf c k ⌝ }
+// What a leaf is judged by in an effective mode.
+pub fn regime(c: Control, m: Mode) -> Regime
+    ensures { λ r. ⌜ r ≡ regimeOf c m ⌝ }
 {
-    let current = c.mode;
-    let mpp = c.mpp;
-    let mode = effective(k, current, c.mprv, mpp);
     Regime {
-        mode,
-        paged: paged(mode, c.sv39),
-        pmm: pmm(mode, c.upmm, c.spmm, c.mpmm),
+        mode: m,
         sum: c.sum,
         mxr: c.mxr,
         sse: c.sse,

@@ -1,10 +1,10 @@
--- `address::regime::effective` meets its contract: the kinds that MPRV concerns. Assumes nothing.
+-- `address::control::of_kind` meets its contract: the kinds that MPRV concerns. Assumes nothing.
 use borrow.Author.Needs.{needs}
-use Rattle.address.proofs.regime.effective.Statement.{statement}
-use Rattle.address.proofs.regime.effective.Tie as tie
+use Rattle.address.proofs.control.of_kind.Statement.{statement}
+use Rattle.address.proofs.control.of_kind.Tie as tie
 
-pub effective-spec : {M : Type 1} → statement M
-effective-spec =
+pub of-kind-spec : {M : Type 1} → statement M
+of-kind-spec =
     tie.close
     (tie.spec
     (λ c. search needs)

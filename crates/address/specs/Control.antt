@@ -1,13 +1,15 @@
--- Step 1, and which PMM counts.
+-- Step 1, the effective mode, and what goes by it: which PMM counts, and whether Sv39 is in force.
+--
+-- Below, c is what the hart's mode and CSRs say about accesses, and m the effective mode.
 use mathlib.Core.Bool.{Bool, false}
 use Prim.Native.Nat.{ℕ}
 use Rattle.word.specs.Choice.{pick}
-use Rattle.page.specs.declared.Kind.the-variants.{Fetch, Load, Store, Push, Pop, Swap}
 use Rattle.page.specs.declared.Kind.{Kind}
-use Rattle.page.specs.declared.Mode.the-variants.{User, Supervisor, Machine}
+use Rattle.page.specs.declared.Kind.the-variants.{Fetch, Load, Store, Push, Pop, Swap}
 use Rattle.page.specs.declared.Mode.{Mode}
+use Rattle.page.specs.declared.Mode.the-variants.{User, Supervisor, Machine}
 use Rattle.page.specs.declared.Regime.{Regime}
-use Rattle.address.specs.declared.regime.Control.{Control}
+use Rattle.address.specs.declared.control.Control.{Control}
 
 -- in M with MPRV set, MPP
 abbrev pub underMprv : (mode : Mode) → (mprv : Bool) → (mpp : Mode) → Mode
@@ -24,28 +26,21 @@ effectiveOf Push mode mprv mpp = mode
 effectiveOf Pop mode mprv mpp = mode
 effectiveOf Swap mode mprv mpp = underMprv mode mprv mpp
 
--- step 2: the PMM of the effective mode is that of senvcfg, menvcfg or mseccfg
+unfoldable pub modeOf : Control → Kind → Mode
+modeOf c k = effectiveOf k (c .mode) (c .mprv) (c .mpp)
+
+-- step 2: the PMM of the effective mode (U senvcfg, S menvcfg, M mseccfg)
 abbrev pub pmmOf : Mode → (senvcfg menvcfg mseccfg : ℕ) → ℕ
 pmmOf User senvcfg menvcfg mseccfg = senvcfg
 pmmOf Supervisor senvcfg menvcfg mseccfg = menvcfg
 pmmOf Machine senvcfg menvcfg mseccfg = mseccfg
 
--- M has no pages
+-- Sv39 is in force: satp says so, and the effective mode is not M
 abbrev pub pagedOf : Mode → (sv39 : Bool) → Bool
 pagedOf User sv39 = sv39
 pagedOf Supervisor sv39 = sv39
 pagedOf Machine sv39 = false
 
-abbrev pub modeOf : Control → Kind → Mode
-modeOf c k = effectiveOf k (c .mode) (c .mprv) (c .mpp)
-
--- what an access of this kind is judged by
-unfoldable pub regimeOf : Control → Kind → Regime
-regimeOf c k = record {
-  mode = modeOf c k;
-  paged = pagedOf (modeOf c k) (c .sv39);
-  pmm = pmmOf (modeOf c k) (c .upmm) (c .spmm) (c .mpmm);
-  sum = c .sum;
-  mxr = c .mxr;
-  sse = c .sse;
-}
+-- what a leaf is judged by
+abbrev pub regimeOf : Control → Mode → Regime
+regimeOf c m = record { mode = m; sum = c .sum; mxr = c .mxr; sse = c .sse }

@@ -1,7 +1,7 @@
 // What the rules ask of a kind of access: is it a fetch, a shadow access, does it write.
 use super::Kind;
 ghost use mathlib.Core.Path.{_≡_};
-ghost use Rattle.page.specs.Access.{isShadow, isFetch, writes};
+ghost use Rattle.page.specs.Kinds.{isShadow, isFetch, writes};
 
 pub fn is_shadow(k: Kind) -> bool
     ensures { λ r. ⌜ r ≡ isShadow k ⌝ }
