@@ -1,4 +1,4 @@
-// Where the shadow stack's accesses go: a push at ssp - 8, a pop-check at ssp itself.
+// Where a push goes: ssp - 8. (A pop-check goes to ssp itself.)
 use super::Virtual;
 use word::sum;
 ghost use mathlib.Core.Path.{_≡_};

@@ -45,7 +45,7 @@ fn explain(fault: Fault) {
         Fault::Wanted => print(b"not as many wanted numbers as a case of this file has"),
         Fault::NotOpened => print(b"cannot be opened"),
         Fault::NotRead => print(b"cannot be read"),
-        Fault::TooLong => print(b"is longer than the buffer of 262144 bytes"),
+        Fault::TooLong => print(b"is longer than the program's buffer"),
         Fault::Empty => print(b"has no case"),
     }
 }

@@ -10,6 +10,6 @@ use Rattle.isa.specs.declared.Width.{Width}
 abbrev pub signExtended : Width → ℕ → ℕ
 signExtended w v = signExtendOf (8 * sizeOf w) v
 
--- what a load of a number of this width puts into its register, with the sign extended or not
+-- what a load puts into its register, with the sign extended or not; v is a loaded number, so it has no bit above the width
 unfoldable pub extendOf : Width → Bool → ℕ → ℕ
 extendOf w sign v = pick sign (signExtended w v) v
