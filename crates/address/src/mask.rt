@@ -45,7 +45,7 @@ pub fn mask(p: u64, paged: bool, a: u64) -> u64
     low
 }
 
-// By the effective mode. A fetch is not masked.
+// The transformed address of an access in its effective mode. A fetch is not masked.
 pub fn transform(c: Control, m: Mode, k: Kind, a: Virtual) -> Virtual
     ensures { λ r. ⌜ r .0 ≡ transformedOf c m k (a .0) ⌝ }
 {
