@@ -1,0 +1,37 @@
+-- What menvcfg, senvcfg and mseccfg switch on, by the mode.
+use mathlib.Core.Bool.{Bool, true, false, _&&_}
+use Prim.Native.Nat.{ℕ}
+use Rattle.page.specs.declared.Mode.{Mode}
+use Rattle.page.specs.declared.Mode.the-variants.{User, Supervisor, Machine}
+use Rattle.csr.specs.Status.{bitOf}
+
+-- SSE of an envcfg
+abbrev pub sseOf : (envcfg : ℕ) → Bool
+sseOf envcfg = bitOf envcfg 3
+
+-- LPE of an envcfg
+abbrev pub lpeOf : (envcfg : ℕ) → Bool
+lpeOf envcfg = bitOf envcfg 2
+
+-- by the mode: while menvcfg.SSE is 0, senvcfg.SSE acts as 0
+abbrev pub bySse : Mode → (machine menvcfg senvcfg : Bool) → Bool
+bySse Machine machine menvcfg senvcfg = machine
+bySse Supervisor machine menvcfg senvcfg = menvcfg
+bySse User machine menvcfg senvcfg = menvcfg && senvcfg
+
+-- active shadow enable: M 0, S menvcfg.SSE, U senvcfg.SSE
+abbrev pub shadowOf : Mode → (menvcfg senvcfg : ℕ) → Bool
+shadowOf m menvcfg senvcfg = bySse m false (sseOf menvcfg) (sseOf senvcfg)
+
+-- ssp as a CSR (and the swap) below M needs menvcfg.SSE, and in U also senvcfg.SSE
+abbrev pub permitsOf : Mode → (menvcfg senvcfg : ℕ) → Bool
+permitsOf m menvcfg senvcfg = bySse m true (sseOf menvcfg) (sseOf senvcfg)
+
+abbrev pub byMode : Mode → (machine supervisor user : Bool) → Bool
+byMode Machine machine supervisor user = machine
+byMode Supervisor machine supervisor user = supervisor
+byMode User machine supervisor user = user
+
+-- pad enable: M mseccfg.MLPE, S menvcfg.LPE, U senvcfg.LPE
+abbrev pub padOf : Mode → (menvcfg senvcfg mseccfg : ℕ) → Bool
+padOf m menvcfg senvcfg mseccfg = byMode m (bitOf mseccfg 10) (lpeOf menvcfg) (lpeOf senvcfg)

@@ -1,0 +1,98 @@
+-- The eighteen CSRs of document 01, a row of fields each. Unnamed bits read zero.
+use mathlib.Core.Bool.{Bool, true, _||_, not}
+use mathlib.Core.List.{List, [], _∷_}
+use Prim.Native.Nat.{ℕ}
+use lib.Dec.{eqb}
+use Rattle.word.specs.Choice.{pick}
+use Rattle.csr.specs.Field.{Field, Fixed, Covered, Any, Only, Hidden, Place, At, row}
+use Rattle.csr.specs.declared.Csr.{Csr}
+use Rattle.csr.specs.declared.Csr.the-variants.{Ssp, Sstatus, Stvec, Senvcfg, Sscratch, Sepc, Scause, Stval, Satp, Mstatus, Medeleg, Mtvec, Menvcfg, Mscratch, Mepc, Mcause, Mtval, Mseccfg}
+
+-- a bit that holds what was written
+abbrev pub bit : ℕ → Place
+bit k = At k (Any 1)
+
+-- a bit that is stored and not seen
+abbrev pub hidden : ℕ → Place
+hidden k = At k (Hidden 1 (λ d. true))
+
+-- MPP holds a mode: writing 2 keeps the old MPP
+abbrev pub isMode : ℕ → Bool
+isMode d = not (eqb d 2)
+
+-- SIE 1, MIE 3, SPIE 5, MPIE 7, SPP 8, MPP 12:11, MPRV 17, SUM 18, MXR 19, SPELP 23, MPELP 41; UXL and SXL read 2
+abbrev pub mstatus : List Field
+mstatus =
+    row
+    (bit 1 ∷ bit 3 ∷ bit 5 ∷ bit 7 ∷ bit 8 ∷ At 11 (Only 2 isMode) ∷ bit 17 ∷ bit 18 ∷ bit 19 ∷ bit 23 ∷ At 32 (Fixed 2 2)
+    ∷ At 34 (Fixed 2 2) ∷ bit 41 ∷ [])
+
+-- the same word, of which sstatus shows SIE, SPIE, SPP, SUM, MXR, SPELP and UXL
+abbrev pub sstatus : List Field
+sstatus =
+    row
+    (bit 1 ∷ hidden 3 ∷ bit 5 ∷ hidden 7 ∷ bit 8 ∷ At 11 (Hidden 2 isMode) ∷ hidden 17 ∷ bit 18 ∷ bit 19 ∷ bit 23
+    ∷ At 32 (Fixed 2 2) ∷ At 34 (Covered 2 2) ∷ hidden 41 ∷ [])
+
+-- writable mask 0x4B3FF
+abbrev pub medeleg : List Field
+medeleg = row (At 0 (Any 10) ∷ At 12 (Any 2) ∷ bit 15 ∷ bit 18 ∷ [])
+
+-- tvec and epc: bits 1:0 read zero
+abbrev pub fours : List Field
+fours = row (At 2 (Any 62) ∷ [])
+
+-- ssp: bits 2:0 read zero
+abbrev pub eights : List Field
+eights = row (At 3 (Any 61) ∷ [])
+
+-- scratch, cause and tval hold any 64 bits
+abbrev pub word : List Field
+word = row (At 0 (Any 64) ∷ [])
+
+-- MODE 0 or 8, all else in it zero; a write with another MODE changes nothing
+abbrev pub isScheme : ℕ → Bool
+isScheme d = eqb d 0 || eqb d 8
+
+abbrev pub satp : List Field
+satp = row (At 60 (Only 4 isScheme) ∷ [])
+
+-- PMM 33:32: writing 1 keeps the old PMM
+abbrev pub isPmm : ℕ → Bool
+isPmm d = not (eqb d 1)
+
+abbrev pub pmm : Place
+pmm = At 32 (Only 2 isPmm)
+
+-- LPE 2, SSE 3, PMM
+abbrev pub envcfg : List Field
+envcfg = row (bit 2 ∷ bit 3 ∷ pmm ∷ [])
+
+-- senvcfg while menvcfg.SSE is 0: SSE reads as 0; the stored bit stays and is not written
+abbrev pub envcfgHeld : List Field
+envcfgHeld = row (bit 2 ∷ hidden 3 ∷ pmm ∷ [])
+
+-- MLPE 10, PMM
+abbrev pub mseccfg : List Field
+mseccfg = row (bit 10 ∷ pmm ∷ [])
+
+-- each CSR's row; sse is menvcfg.SSE
+abbrev pub rowOf : Csr → (sse : Bool) → List Field
+rowOf Ssp sse = eights
+rowOf Sstatus sse = sstatus
+rowOf Stvec sse = fours
+rowOf Senvcfg sse = pick sse envcfg envcfgHeld
+rowOf Sscratch sse = word
+rowOf Sepc sse = fours
+rowOf Scause sse = word
+rowOf Stval sse = word
+rowOf Satp sse = satp
+rowOf Mstatus sse = mstatus
+rowOf Medeleg sse = medeleg
+rowOf Mtvec sse = fours
+rowOf Menvcfg sse = envcfg
+rowOf Mscratch sse = word
+rowOf Mepc sse = fours
+rowOf Mcause sse = word
+rowOf Mtval sse = word
+rowOf Mseccfg sse = mseccfg

@@ -1,0 +1,30 @@
+// The rules of single CSRs, on numbers: which address names which CSR and which mode may touch it, what a write leaves and
+// a read shows, which words a CSR can hold, what they switch on, and what a trap and a return make of mstatus.
+pub mod enable;
+pub mod mode;
+pub mod reach;
+mod row;
+pub mod status;
+pub mod write;
+
+// The CSRs of document 01, in its order.
+pub enum Csr {
+    Ssp,
+    Sstatus,
+    Stvec,
+    Senvcfg,
+    Sscratch,
+    Sepc,
+    Scause,
+    Stval,
+    Satp,
+    Mstatus,
+    Medeleg,
+    Mtvec,
+    Menvcfg,
+    Mscratch,
+    Mepc,
+    Mcause,
+    Mtval,
+    Mseccfg,
+}
