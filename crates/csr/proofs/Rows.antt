@@ -179,3 +179,8 @@ pub legal-is : (fs : List Field) (r m : ℕ) → allFit fs ≡ true → allSeen 
 legal-is fs r m g o h l =
     same (legalOf fs m) (eqb (writeOf fs r m) m) (λ e. eq-eqb (writeOf fs r m) m (kept fs r m o l e))
     (λ e. rw (eqb-true (writeOf fs r m) m e) at (left fs r m g h))
+
+-- as code tests it
+pub passes : (fs : List Field) (r m w : ℕ) → allFit fs ≡ true → allSeen fs ≡ true → legalOf fs r ≡ true → m < 2 ^ bitsOf fs → w ≡ writeOf fs r m
+    → eqb w m ≡ legalOf fs m
+passes fs r m w g o h l e = ap (λ (x : ℕ). eqb x m) e ∙ sym (legal-is fs r m g o h l)

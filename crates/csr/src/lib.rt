@@ -1,6 +1,7 @@
 // The rules of single CSRs, on numbers: which address names which CSR and which mode may touch it, what a write leaves and
 // a read shows, which words a CSR can hold, what they switch on, and what a trap and a return make of mstatus.
 pub mod enable;
+pub mod legal;
 pub mod mode;
 pub mod reach;
 mod row;

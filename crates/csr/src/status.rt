@@ -228,5 +228,9 @@ pub fn back_m(m: u64) -> Mode
 pub fn back_s(m: u64) -> Mode
     ensures { λ r. ⌜ r ≡ backS m ⌝ }
 {
-    if m / 0x100 % 2 == 1 { Mode::Supervisor } else { Mode::User }
+    if m / 0x100 % 2 == 1 {
+        Mode::Supervisor
+    } else {
+        Mode::User
+    }
 }

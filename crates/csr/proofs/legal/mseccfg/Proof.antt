@@ -1,0 +1,17 @@
+-- `csr::legal::mseccfg` meets its contract: a write of the word leaves it. Assumes nothing.
+use mathlib.Core.Path.{refl}
+use native.Mathlib.Omega.{arith}
+use Rattle.csr.specs.Row.{mseccfg}
+use Rattle.csr.proofs.Rows.{passes}
+use borrow.Author.Needs.{needs}
+use Rattle.csr.proofs.legal.mseccfg.Statement.{statement}
+use Rattle.csr.proofs.legal.mseccfg.Tie as tie
+
+mseccfg-requires : tie.Need-mseccfg-requires
+mseccfg-requires c κs = search needs
+
+returns : tie.Need-returns
+returns c = passes mseccfg 0 (c .before .args .m) _ refl refl refl (omega arith) (c .mseccfg .ensures)
+
+pub mseccfg-spec : {M : Type 1} → statement M
+mseccfg-spec = tie.close (tie.spec mseccfg-requires returns)

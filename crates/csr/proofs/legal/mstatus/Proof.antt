@@ -1,0 +1,18 @@
+-- `csr::legal::mstatus` meets its contract: a write of the word leaves it. Assumes nothing.
+use mathlib.Core.Path.{refl}
+use native.Mathlib.Omega.{arith}
+use Rattle.csr.specs.Row.{mstatus}
+use Rattle.csr.proofs.Rows.{passes}
+use Rattle.csr.proofs.Packed.{start}
+use borrow.Author.Needs.{needs}
+use Rattle.csr.proofs.legal.mstatus.Statement.{statement}
+use Rattle.csr.proofs.legal.mstatus.Tie as tie
+
+write-requires : tie.Need-write-requires
+write-requires c κs = search needs
+
+returns : tie.Need-returns
+returns c = passes mstatus start (c .before .args .m) _ refl refl refl (omega arith) (c .write .ensures)
+
+pub mstatus-spec : {M : Type 1} → statement M
+mstatus-spec = tie.close (tie.spec write-requires returns)

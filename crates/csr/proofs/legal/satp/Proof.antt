@@ -1,0 +1,17 @@
+-- `csr::legal::satp` meets its contract: a write of the word leaves it. Assumes nothing.
+use mathlib.Core.Path.{refl}
+use native.Mathlib.Omega.{arith}
+use Rattle.csr.specs.Row.{satp}
+use Rattle.csr.proofs.Rows.{passes}
+use borrow.Author.Needs.{needs}
+use Rattle.csr.proofs.legal.satp.Statement.{statement}
+use Rattle.csr.proofs.legal.satp.Tie as tie
+
+satp-requires : tie.Need-satp-requires
+satp-requires c κs = search needs
+
+returns : tie.Need-returns
+returns c = passes satp 0 (c .before .args .m) _ refl refl refl (omega arith) (c .satp .ensures)
+
+pub satp-spec : {M : Type 1} → statement M
+satp-spec = tie.close (tie.spec satp-requires returns)

@@ -1,0 +1,44 @@
+// Which words a CSR can hold: exactly those that a write of them, over a word that it can hold, leaves as they are.
+use super::row;
+use super::status;
+ghost use mathlib.Core.Path.{_≡_};
+ghost use Rattle.csr.specs.Field.{legalOf};
+ghost use Rattle.csr.specs.Row.{mstatus, medeleg, fours, satp, envcfg, mseccfg};
+
+// Over mstatus with nothing set, UXL and SXL 2.
+pub fn mstatus(m: u64) -> bool
+    ensures { λ r. ⌜ r ≡ legalOf mstatus m ⌝ }
+{
+    status::write(0xa_0000_0000, m) == m
+}
+
+pub fn medeleg(m: u64) -> bool
+    ensures { λ r. ⌜ r ≡ legalOf medeleg m ⌝ }
+{
+    row::medeleg(m) == m
+}
+
+pub fn fours(m: u64) -> bool
+    ensures { λ r. ⌜ r ≡ legalOf fours m ⌝ }
+{
+    row::fours(m) == m
+}
+
+pub fn satp(m: u64) -> bool
+    ensures { λ r. ⌜ r ≡ legalOf satp m ⌝ }
+{
+    row::satp(0, m) == m
+}
+
+// menvcfg and senvcfg.
+pub fn envcfg(m: u64) -> bool
+    ensures { λ r. ⌜ r ≡ legalOf envcfg m ⌝ }
+{
+    row::envcfg(0, m) == m
+}
+
+pub fn mseccfg(m: u64) -> bool
+    ensures { λ r. ⌜ r ≡ legalOf mseccfg m ⌝ }
+{
+    row::mseccfg(0, m) == m
+}

@@ -1,0 +1,22 @@
+-- Reading and writing a CSR of the hart.
+use Prim.Native.Nat.{ℕ}
+use Rattle.csr.specs.declared.Csr.{Csr}
+use Rattle.csr.specs.Field.{writeOf, readOf}
+use Rattle.csr.specs.Row.{rowOf}
+use Rattle.csr.specs.Enable.{sseOf}
+use Rattle.hart.specs.Setters.{withSsp, withCsrs, storedOf, putOf, pointerOf}
+use Rattle.hart.specs.declared.Hart.{Hart}
+use Rattle.hart.specs.declared.Csrs.{Csrs}
+
+-- what a read of CSR n shows
+unfoldable pub shownOf : Csr → (ssp : ℕ) → Csrs → ℕ
+shownOf n ssp c = readOf (rowOf n (sseOf (c .menvcfg))) (storedOf n ssp c)
+
+-- the word that a write of v to CSR n leaves
+unfoldable pub writtenOf : Csr → (v ssp : ℕ) → Csrs → ℕ
+writtenOf n v ssp c = writeOf (rowOf n (sseOf (c .menvcfg))) (storedOf n ssp c) v
+
+-- the hart after a write of v to CSR n
+unfoldable pub csrWriteOf : Csr → (v : ℕ) → Hart → Hart
+csrWriteOf n v h =
+    withSsp (pointerOf n (writtenOf n v (h .ssp) (h .csrs)) (h .ssp)) (withCsrs (putOf n (writtenOf n v (h .ssp) (h .csrs)) (h .csrs)) h)

@@ -1,0 +1,30 @@
+-- MRET and SRET.
+use mathlib.Core.Bool.{Bool, _&&_}
+use Prim.Native.Nat.{ℕ}
+use Rattle.page.specs.declared.Mode.{Mode}
+use Rattle.csr.specs.Mode.{numberOf}
+use Rattle.csr.specs.Status.{bitOf, leaveM, leaveS, backM, backS}
+use Rattle.csr.specs.Enable.{padOf}
+use Rattle.hart.specs.Setters.{withPc, withMode, withElp, withCsrs, withMstatus}
+use Rattle.hart.specs.declared.Hart.{Hart}
+use Rattle.hart.specs.declared.Csrs.{Csrs}
+
+-- the saved ELP if the new mode's pad enable is set, else 0
+abbrev pub elpAfter : Csrs → (new : Mode) → (saved : Bool) → Bool
+elpAfter c new saved = padOf new (c .menvcfg) (c .senvcfg) (c .mseccfg) && saved
+
+-- in the new mode
+abbrev pub backIn : Hart → (new : Mode) → (saved : Bool) → Hart
+backIn h new saved = withMode (numberOf new) (withElp (elpAfter (h .csrs) new saved) h)
+
+-- MRET: to MPP at mepc, with MPELP
+unfoldable pub mretOf : Hart → Hart
+mretOf h =
+    backIn (withCsrs (withMstatus (leaveM (h .csrs .mstatus)) (h .csrs)) (withPc (h .csrs .mepc) h)) (backM (h .csrs .mstatus))
+    (bitOf (h .csrs .mstatus) 41)
+
+-- SRET: to SPP at sepc, with SPELP
+unfoldable pub sretOf : Hart → Hart
+sretOf h =
+    backIn (withCsrs (withMstatus (leaveS (h .csrs .mstatus)) (h .csrs)) (withPc (h .csrs .sepc) h)) (backS (h .csrs .mstatus))
+    (bitOf (h .csrs .mstatus) 23)

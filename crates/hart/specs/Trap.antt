@@ -1,0 +1,42 @@
+-- Trap entry.
+use mathlib.Core.Bool.{Bool, false, _&&_}
+use Prim.Native.Nat.{ℕ}
+use Rattle.word.specs.Choice.{pick}
+use Rattle.page.specs.declared.Mode.{Mode}
+use Rattle.page.specs.declared.Mode.the-variants.{User, Supervisor, Machine}
+use Rattle.csr.specs.Mode.{modeOf}
+use Rattle.csr.specs.Status.{bitOf, enterM, enterS}
+use Rattle.hart.specs.Setters.{withPc, withMode, withElp, withCsrs, withMstatus, withMepc, withMcause, withMtval, withSepc, withScause, withStval}
+use Rattle.hart.specs.declared.Hart.{Hart}
+use Rattle.hart.specs.declared.Csrs.{Csrs}
+
+-- the cause is delegated: its bit of medeleg is set
+abbrev pub delegatedOf : (medeleg cause : ℕ) → Bool
+delegatedOf medeleg cause = bitOf medeleg cause
+
+-- to S if below M and delegated, else M
+abbrev pub toS : Mode → (delegated : Bool) → Bool
+toS User delegated = delegated
+toS Supervisor delegated = delegated
+toS Machine delegated = false
+
+-- save pc, cause, tval, and in mstatus the mode, the interrupt enable and ELP (to MPELP)
+abbrev pub savedM : Csrs → (pc : ℕ) → Mode → (elp : Bool) → (cause tval : ℕ) → Csrs
+savedM c pc mode elp cause tval = withMtval tval (withMcause cause (withMepc pc (withMstatus (enterM (c .mstatus) mode elp) c)))
+
+-- the same to SPELP
+abbrev pub savedS : Csrs → (pc : ℕ) → Mode → (elp : Bool) → (cause tval : ℕ) → Csrs
+savedS c pc mode elp cause tval = withStval tval (withScause cause (withSepc pc (withMstatus (enterS (c .mstatus) mode elp) c)))
+
+-- clear ELP; go to tvec
+abbrev pub trapM : Hart → (cause tval : ℕ) → Hart
+trapM h cause tval =
+    withElp false (withMode 3 (withPc (h .csrs .mtvec) (withCsrs (savedM (h .csrs) (h .pc) (modeOf (h .mode)) (h .elp) cause tval) h)))
+
+abbrev pub trapS : Hart → (cause tval : ℕ) → Hart
+trapS h cause tval =
+    withElp false (withMode 1 (withPc (h .csrs .stvec) (withCsrs (savedS (h .csrs) (h .pc) (modeOf (h .mode)) (h .elp) cause tval) h)))
+
+unfoldable pub trapOf : Hart → (cause tval : ℕ) → Hart
+trapOf h cause tval =
+    pick (toS (modeOf (h .mode)) (delegatedOf (h .csrs .medeleg) cause)) (trapS h cause tval) (trapM h cause tval)

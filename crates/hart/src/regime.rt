@@ -1,0 +1,32 @@
+// The regime of the hart's accesses: what translation needs to know of the mode and the CSRs.
+use address::control::Control;
+use csr::enable;
+use csr::mode;
+use csr::status;
+ghost use mathlib.Core.Path.{_≡_};
+ghost use Rattle.hart.specs.Regime.{controlOf};
+
+// Takes numbers, so that a step need not pass its hart.
+pub fn control(
+    mode: u64,
+    mstatus: u64,
+    satp: u64,
+    menvcfg: u64,
+    senvcfg: u64,
+    mseccfg: u64,
+) -> Control
+    ensures { λ r. ⌜ r ≡ controlOf mode mstatus satp menvcfg senvcfg mseccfg ⌝ }
+{
+    Control {
+        mode: mode::mode(mode),
+        mprv: mstatus / 0x2_0000 % 2 == 1,
+        mpp: status::back_m(mstatus),
+        sv39: satp / 0x1000_0000_0000_0000 == 8,
+        sum: mstatus / 0x4_0000 % 2 == 1,
+        mxr: mstatus / 0x8_0000 % 2 == 1,
+        sse: enable::sse(menvcfg),
+        upmm: (senvcfg / 0x1_0000_0000 % 4) as u8,
+        spmm: (menvcfg / 0x1_0000_0000 % 4) as u8,
+        mpmm: (mseccfg / 0x1_0000_0000 % 4) as u8,
+    }
+}

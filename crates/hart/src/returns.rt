@@ -1,0 +1,62 @@
+// MRET and SRET.
+use super::Csrs;
+use super::Hart;
+use csr::enable;
+use csr::mode;
+use csr::status;
+use page::Mode;
+ghost use mathlib.Core.Path.{_≡_};
+ghost use mathlib.Core.Bool.{_&&_};
+ghost use Rattle.hart.specs.Return.{elpAfter, backIn, mretOf, sretOf};
+
+fn both(a: bool, b: bool) -> bool
+    ensures { λ r. ⌜ r ≡ (a && b) ⌝ }
+{
+    if a { b } else { false }
+}
+
+impl Csrs {
+    // ELP after a return: the saved one if the new mode's pad enable is set, else 0.
+    fn elp_after(self, new: Mode, saved: bool) -> bool
+        ensures { λ r. ⌜ r ≡ elpAfter self new saved ⌝ }
+    {
+        both(
+            enable::pad(new, self.menvcfg, self.senvcfg, self.mseccfg),
+            saved,
+        )
+    }
+}
+
+impl Hart {
+    // In mode `new`, with the saved ELP where it counts.
+    fn back_in(mut self, new: Mode, saved: bool) -> Hart
+        ensures { λ r. ⌜ r ≡ backIn self new saved ⌝ }
+    {
+        let c = self.csrs;
+        self.elp = c.elp_after(new, saved);
+        self.mode = mode::number(new);
+        self
+    }
+
+    // MRET: to MPP at mepc, with MPELP.
+    pub fn mret(mut self) -> Hart
+        ensures { λ r. ⌜ r ≡ mretOf self ⌝ }
+    {
+        let c = self.csrs;
+        let m = c.mstatus;
+        self.pc = c.mepc;
+        self.csrs = c.with_mstatus(status::leave_m(m));
+        self.back_in(status::back_m(m), m / 0x200_0000_0000 % 2 == 1)
+    }
+
+    // SRET: to SPP at sepc, with SPELP.
+    pub fn sret(mut self) -> Hart
+        ensures { λ r. ⌜ r ≡ sretOf self ⌝ }
+    {
+        let c = self.csrs;
+        let m = c.mstatus;
+        self.pc = c.sepc;
+        self.csrs = c.with_mstatus(status::leave_s(m));
+        self.back_in(status::back_s(m), m / 0x80_0000 % 2 == 1)
+    }
+}
