@@ -16,13 +16,19 @@ holds n m = legalOf (rowOf n true) m
 
 abbrev pub machineLegal : Csrs → Bool
 machineLegal c =
-    holds Mstatus (c .mstatus) && holds Medeleg (c .medeleg) && holds Mtvec (c .mtvec) && holds Menvcfg (c .menvcfg) && holds Mscratch (c .mscratch)
-    && holds Mepc (c .mepc) && holds Mcause (c .mcause) && holds Mtval (c .mtval) && holds Mseccfg (c .mseccfg)
+    holds Mstatus (c .mstatus)
+    && (holds Medeleg (c .medeleg)
+    && (holds Mtvec (c .mtvec)
+    && (holds Menvcfg (c .menvcfg)
+    && (holds Mscratch (c .mscratch)
+    && (holds Mepc (c .mepc) && (holds Mcause (c .mcause) && (holds Mtval (c .mtval) && holds Mseccfg (c .mseccfg))))))))
 
 unfoldable pub csrsLegal : Csrs → Bool
 csrsLegal c =
-    holds Stvec (c .stvec) && holds Senvcfg (c .senvcfg) && holds Sscratch (c .sscratch) && holds Sepc (c .sepc) && holds Scause (c .scause)
-    && holds Stval (c .stval) && holds Satp (c .satp) && machineLegal c
+    holds Stvec (c .stvec)
+    && (holds Senvcfg (c .senvcfg)
+    && (holds Sscratch (c .sscratch)
+    && (holds Sepc (c .sepc) && (holds Scause (c .scause) && (holds Stval (c .stval) && (holds Satp (c .satp) && machineLegal c))))))
 
 -- the mode is 0, 1 or 3
 abbrev pub isMode : ℕ → Bool
@@ -31,4 +37,5 @@ isMode m = eqb m 0 || eqb m 1 || eqb m 3
 -- register 0 is 0; pc is a multiple of 4; the mode is 0, 1 or 3; ssp is a multiple of 8; and each CSR holds a value that a
 -- write could leave
 unfoldable pub legal : Hart → Bool
-legal h = eqb (getD (h .x) 0 0) 0 && eqb (h .pc % 4) 0 && isMode (h .mode) && eqb (h .ssp % 8) 0 && csrsLegal (h .csrs)
+legal h =
+    eqb (getD (h .x) 0 0) 0 && (eqb (h .pc % 4) 0 && (isMode (h .mode) && (eqb (h .ssp % 8) 0 && csrsLegal (h .csrs))))

@@ -1,7 +1,8 @@
 -- The only literals of a Hart and of its Csrs: either with one field changed, and the word that a CSR stores.
-use mathlib.Core.Bool.{Bool}
+use mathlib.Core.Bool.{Bool, false}
 use mathlib.Core.List.{List}
 use Prim.Native.Nat.{ℕ}
+use lib.ListN.{replicate}
 use Rattle.csr.specs.declared.Csr.{Csr}
 use Rattle.csr.specs.declared.Csr.the-variants.{Ssp, Sstatus, Stvec, Senvcfg, Sscratch, Sepc, Scause, Stval, Satp, Mstatus, Medeleg, Mtvec, Menvcfg, Mscratch, Mepc, Mcause, Mtval, Mseccfg}
 use Rattle.hart.specs.declared.Hart.{Hart}
@@ -343,6 +344,34 @@ withMseccfg v c = record {
   mcause = c .mcause;
   mtval = c .mtval;
   mseccfg = v;
+}
+
+-- a hart to start from: in M at address 0, and nothing set; UXL and SXL are 2
+abbrev pub startOf : Hart
+startOf = record {
+  pc = 0;
+  x = replicate 32 0;
+  mode = 3;
+  elp = false;
+  ssp = 0;
+  csrs = record {
+    stvec = 0;
+    senvcfg = 0;
+    sscratch = 0;
+    sepc = 0;
+    scause = 0;
+    stval = 0;
+    satp = 0;
+    mstatus = 0xA00000000;
+    medeleg = 0;
+    mtvec = 0;
+    menvcfg = 0;
+    mscratch = 0;
+    mepc = 0;
+    mcause = 0;
+    mtval = 0;
+    mseccfg = 0;
+  };
 }
 
 -- the word that a CSR stores: sstatus is a view of mstatus

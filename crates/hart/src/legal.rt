@@ -7,7 +7,7 @@ ghost use mathlib.Core.Bool.{_&&_, _||_};
 ghost use Rattle.hart.specs.Legal.{isMode, machineLegal, csrsLegal, legal};
 
 fn all(a: bool, b: bool, c: bool, d: bool, e: bool) -> bool
-    ensures { λ r. ⌜ r ≡ (a && b && c && d && e) ⌝ }
+    ensures { λ r. ⌜ r ≡ (a && (b && (c && (d && e)))) ⌝ }
 {
     if a {
         if b {

@@ -1,8 +1,40 @@
-// The only file that changes a field of `Csrs`, and the words of the CSRs by name.
+// The only file that makes a `Hart` or a `Csrs`, and the words of the CSRs one at a time.
 use super::Csrs;
+use super::Hart;
 use csr::Csr;
 ghost use mathlib.Core.Path.{_≡_};
-ghost use Rattle.hart.specs.Setters.{storedOf, putOf, pointerOf, withStvec, withSenvcfg, withSscratch, withSepc, withScause, withStval, withSatp, withMstatus, withMedeleg, withMtvec, withMenvcfg, withMscratch, withMepc, withMcause, withMtval, withMseccfg};
+ghost use Rattle.hart.specs.Setters.{startOf, storedOf, putOf, pointerOf, withStvec, withSenvcfg, withSscratch, withSepc, withScause, withStval, withSatp, withMstatus, withMedeleg, withMtvec, withMenvcfg, withMscratch, withMepc, withMcause, withMtval, withMseccfg};
+
+// A hart to start from: in M at address 0, and nothing set.
+pub fn start() -> Hart
+    ensures { λ r. ⌜ r ≡ startOf ⌝ }
+{
+    Hart {
+        pc: 0,
+        x: [0; 32],
+        mode: 3,
+        elp: false,
+        ssp: 0,
+        csrs: Csrs {
+            stvec: 0,
+            senvcfg: 0,
+            sscratch: 0,
+            sepc: 0,
+            scause: 0,
+            stval: 0,
+            satp: 0,
+            mstatus: 0xa_0000_0000,
+            medeleg: 0,
+            mtvec: 0,
+            menvcfg: 0,
+            mscratch: 0,
+            mepc: 0,
+            mcause: 0,
+            mtval: 0,
+            mseccfg: 0,
+        },
+    }
+}
 
 impl Csrs {
     pub fn with_stvec(mut self, v: u64) -> Csrs

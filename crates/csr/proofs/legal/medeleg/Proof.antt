@@ -7,11 +7,5 @@ use borrow.Author.Needs.{needs}
 use Rattle.csr.proofs.legal.medeleg.Statement.{statement}
 use Rattle.csr.proofs.legal.medeleg.Tie as tie
 
-medeleg-requires : tie.Need-medeleg-requires
-medeleg-requires c κs = search needs
-
-returns : tie.Need-returns
-returns c = passes medeleg 0 (c .before .args .m) _ refl refl refl (omega arith) (c .medeleg .ensures)
-
 pub medeleg-spec : {M : Type 1} → statement M
-medeleg-spec = tie.close (tie.spec medeleg-requires returns)
+medeleg-spec = tie.close (tie.spec (λ c κs. search needs) (λ c. passes medeleg 0 (c .before .args .m) _ refl refl refl (omega arith) (c .medeleg .ensures)))

@@ -7,11 +7,5 @@ use borrow.Author.Needs.{needs}
 use Rattle.csr.proofs.legal.mseccfg.Statement.{statement}
 use Rattle.csr.proofs.legal.mseccfg.Tie as tie
 
-mseccfg-requires : tie.Need-mseccfg-requires
-mseccfg-requires c κs = search needs
-
-returns : tie.Need-returns
-returns c = passes mseccfg 0 (c .before .args .m) _ refl refl refl (omega arith) (c .mseccfg .ensures)
-
 pub mseccfg-spec : {M : Type 1} → statement M
-mseccfg-spec = tie.close (tie.spec mseccfg-requires returns)
+mseccfg-spec = tie.close (tie.spec (λ c κs. search needs) (λ c. passes mseccfg 0 (c .before .args .m) _ refl refl refl (omega arith) (c .mseccfg .ensures)))

@@ -8,11 +8,5 @@ use borrow.Author.Needs.{needs}
 use Rattle.csr.proofs.legal.mstatus.Statement.{statement}
 use Rattle.csr.proofs.legal.mstatus.Tie as tie
 
-write-requires : tie.Need-write-requires
-write-requires c κs = search needs
-
-returns : tie.Need-returns
-returns c = passes mstatus start (c .before .args .m) _ refl refl refl (omega arith) (c .write .ensures)
-
 pub mstatus-spec : {M : Type 1} → statement M
-mstatus-spec = tie.close (tie.spec write-requires returns)
+mstatus-spec = tie.close (tie.spec (λ c κs. search needs) (λ c. passes mstatus start (c .before .args .m) _ refl refl refl (omega arith) (c .write .ensures)))

@@ -7,11 +7,5 @@ use borrow.Author.Needs.{needs}
 use Rattle.csr.proofs.legal.satp.Statement.{statement}
 use Rattle.csr.proofs.legal.satp.Tie as tie
 
-satp-requires : tie.Need-satp-requires
-satp-requires c κs = search needs
-
-returns : tie.Need-returns
-returns c = passes satp 0 (c .before .args .m) _ refl refl refl (omega arith) (c .satp .ensures)
-
 pub satp-spec : {M : Type 1} → statement M
-satp-spec = tie.close (tie.spec satp-requires returns)
+satp-spec = tie.close (tie.spec (λ c κs. search needs) (λ c. passes satp 0 (c .before .args .m) _ refl refl refl (omega arith) (c .satp .ensures)))

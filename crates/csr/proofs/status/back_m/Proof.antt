@@ -4,12 +4,9 @@ use borrow.Author.Needs.{needs}
 use Rattle.csr.proofs.status.back_m.Statement.{statement}
 use Rattle.csr.proofs.status.back_m.Tie as tie
 
-mode-requires : tie.Need-mode-requires
-mode-requires c κs = search needs
-
 returns : tie.Need-returns
 unfolding backM
 returns c = c .mode .ensures
 
 pub back-m-spec : {M : Type 1} → statement M
-back-m-spec = tie.close (tie.spec mode-requires returns)
+back-m-spec = tie.close (tie.spec (λ c κs. search needs) returns)

@@ -5,22 +5,10 @@ use borrow.Author.Needs.{needs}
 use Rattle.csr.proofs.status.enter_m.Statement.{statement}
 use Rattle.csr.proofs.status.enter_m.Tie as tie
 
-split-requires : tie.Need-split-requires
-split-requires c κs = search needs
-
-number-requires : tie.Need-number-requires
-number-requires c κs = search needs
-
-trapped-m-requires : tie.Need-trapped-m-requires
-trapped-m-requires c κs = search needs
-
-word-requires : tie.Need-word-requires
-word-requires c κs = rw (c .trapped-m .ensures) (omega (arith, c .before .number .ensures .1))
-
 returns : tie.Need-returns
 unfolding enterM
 returns c = rw (c .word .ensures, c .before .trapped-m .ensures, c .before .before .number .ensures .0, c .before .before .before .split .ensures .0)
 
 pub enter-m-spec : {M : Type 1} → statement M
 enter-m-spec =
-    tie.close (tie.spec split-requires number-requires trapped-m-requires word-requires returns)
+    tie.close (tie.spec (λ c κs. search needs) (λ c κs. search needs) (λ c κs. search needs) (λ c κs. rw (c .trapped-m .ensures) (omega (arith, c .before .number .ensures .1))) returns)

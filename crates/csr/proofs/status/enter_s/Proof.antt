@@ -4,18 +4,6 @@ use borrow.Author.Needs.{needs}
 use Rattle.csr.proofs.status.enter_s.Statement.{statement}
 use Rattle.csr.proofs.status.enter_s.Tie as tie
 
-split-requires : tie.Need-split-requires
-split-requires c κs = search needs
-
-is-supervisor-requires : tie.Need-is-supervisor-requires
-is-supervisor-requires c κs = search needs
-
-trapped-s-requires : tie.Need-trapped-s-requires
-trapped-s-requires c κs = search needs
-
-word-requires : tie.Need-word-requires
-word-requires c κs = rw (c .trapped-s .ensures) (c .before .before .split .ensures .1)
-
 returns : tie.Need-returns
 unfolding enterS
 returns c = rw (c .word .ensures, c .before .trapped-s .ensures, c .before .before .is-supervisor .ensures, c .before .before .before .split .ensures .0)
@@ -23,4 +11,4 @@ returns c = rw (c .word .ensures, c .before .trapped-s .ensures, c .before .befo
 pub enter-s-spec : {M : Type 1} → statement M
 enter-s-spec =
     tie.close
-    (tie.spec split-requires is-supervisor-requires trapped-s-requires word-requires returns)
+    (tie.spec (λ c κs. search needs) (λ c κs. search needs) (λ c κs. search needs) (λ c κs. rw (c .trapped-s .ensures) (c .before .before .split .ensures .1)) returns)

@@ -5,18 +5,9 @@ use borrow.Author.Needs.{needs}
 use Rattle.csr.proofs.status.leave_m.Statement.{statement}
 use Rattle.csr.proofs.status.leave_m.Tie as tie
 
-split-requires : tie.Need-split-requires
-split-requires c κs = search needs
-
-returned-m-requires : tie.Need-returned-m-requires
-returned-m-requires c κs = search needs
-
-word-requires : tie.Need-word-requires
-word-requires c κs = rw (c .returned-m .ensures) (omega arith)
-
 returns : tie.Need-returns
 unfolding leaveM
 returns c = rw (c .word .ensures, c .before .returned-m .ensures, c .before .before .split .ensures .0)
 
 pub leave-m-spec : {M : Type 1} → statement M
-leave-m-spec = tie.close (tie.spec split-requires returned-m-requires word-requires returns)
+leave-m-spec = tie.close (tie.spec (λ c κs. search needs) (λ c κs. search needs) (λ c κs. rw (c .returned-m .ensures) (omega arith)) returns)

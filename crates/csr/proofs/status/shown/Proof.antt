@@ -6,14 +6,5 @@ use borrow.Author.Needs.{needs}
 use Rattle.csr.proofs.status.shown.Statement.{statement}
 use Rattle.csr.proofs.status.shown.Tie as tie
 
-split-requires : tie.Need-split-requires
-split-requires c κs = search needs
-
-word-requires : tie.Need-word-requires
-word-requires c κs = search needs
-
-returns : tie.Need-returns
-returns c = c .word .ensures ∙ ap wordOf (c .before .split .ensures .0) ∙ sym (shows (c .before .before .args .m))
-
 pub shown-spec : {M : Type 1} → statement M
-shown-spec = tie.close (tie.spec split-requires word-requires returns)
+shown-spec = tie.close (tie.spec (λ c κs. search needs) (λ c κs. search needs) (λ c. c .word .ensures ∙ ap wordOf (c .before .split .ensures .0) ∙ sym (shows (c .before .before .args .m))))

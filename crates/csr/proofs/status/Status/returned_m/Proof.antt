@@ -3,11 +3,5 @@ use borrow.Author.Needs.{needs}
 use Rattle.csr.proofs.status.Status.returned_m.Statement.{statement}
 use Rattle.csr.proofs.status.Status.returned_m.Tie as tie
 
-both-requires : tie.Need-both-requires
-both-requires c κs = search needs
-
-returns : tie.Need-returns
-returns c = rw (c .both .ensures)
-
 pub returned-m-spec : {M : Type 1} → statement M
-returned-m-spec = tie.close (tie.spec both-requires returns)
+returned-m-spec = tie.close (tie.spec (λ c κs. search needs) (λ c. rw (c .both .ensures)))

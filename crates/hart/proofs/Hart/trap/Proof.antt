@@ -1,0 +1,30 @@
+use mathlib.Core.Path.{_≡_, sym, _∙_}
+use mathlib.Core.Bool.{true, false}
+use Rattle.word.proofs.Choices.{first, second}
+use Rattle.csr.specs.Mode.{modeOf}
+use Rattle.hart.specs.Trap.{toS, delegatedOf}
+-- `hart::Hart::trap` meets its contract. Assumes nothing.
+use Rattle.hart.specs.Trap.{trapOf}
+use borrow.Author.Needs.{needs}
+use Rattle.hart.proofs.Hart.trap.Statement.{statement}
+use Rattle.hart.proofs.Hart.trap.Tie as tie
+
+returns : tie.Need-returns
+unfolding trapOf
+returns c = let b = c .before .before in let h = b .before .before .before .before .args .self in let t : toS (modeOf (h .mode)) (delegatedOf (h .csrs .medeleg) (b .before .before .before .before .args .cause)) ≡ true = rw (← b .before .before .mode .ensures, ← b .before .delegated .ensures) (sym (b .to-s .ensures) ∙ c .before .if1 .taken) in rw (c .saved-s .ensures, b .before .before .mode .ensures) (sym (first _ _ _ t))
+
+returns-2 : tie.Need-returns-2
+unfolding trapOf
+returns-2 c = let b = c .before .before in let h = b .before .before .before .before .args .self in let t : toS (modeOf (h .mode)) (delegatedOf (h .csrs .medeleg) (b .before .before .before .before .args .cause)) ≡ false = rw (← b .before .before .mode .ensures, ← b .before .delegated .ensures) (sym (b .to-s .ensures) ∙ c .before .if1 .left) in rw (c .saved-m .ensures, b .before .before .mode .ensures) (sym (second _ _ _ t))
+
+pub trap-spec : {M : Type 1} → statement M
+trap-spec =
+    tie.close
+    (tie.spec
+    (λ c κs. search needs)
+    (λ c κs. search needs)
+    (λ c κs. search needs)
+    (λ c κs. search needs)
+    returns
+    (λ c κs. search needs)
+    returns-2)
