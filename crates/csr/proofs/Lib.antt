@@ -1,2 +1,4 @@
 pub mod Rows
 pub mod Packed
+pub mod Made
+pub mod Users

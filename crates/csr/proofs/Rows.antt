@@ -4,7 +4,7 @@
 use mathlib.Core.Path.{_≡_, refl, sym, ap, _∙_}
 use mathlib.Core.Bool.{Bool, true, false, _&&_}
 use mathlib.Core.List.{List, [], _∷_}
-use Prim.Native.Nat.{ℕ, _+_, _*_, _/_, _%_, _^_, _<_}
+use Prim.Native.Nat.{ℕ, zero, suc, _+_, _*_, _/_, _%_, _^_, _<_}
 use native.Mathlib.Nat.{mod-lt, add-mul, mul-assoc, div-one, mul-one, mul-comm, add-comm, div-lt-iff-lt-mul}
 use native.Mathlib.Omega.{arith}
 use lib.Pow.{pow-pos, pow-add, shr-shr, split, high, low}
@@ -12,7 +12,7 @@ use lib.Dec.{eqb}
 use borrow.Author.Tests.{eq-eqb, eqb-true, ltb-true}
 use Rattle.word.specs.Choice.{pick}
 use Rattle.word.proofs.Bools.{both}
-use Rattle.csr.specs.Field.{Field, Fixed, Covered, Any, Only, Hidden, widthOf, takesOf, showsOf, holdsOf, writeFrom, readFrom, legalFrom, writeOf, readOf, legalOf, bitsOf, fits, allFit, seen, allSeen}
+use Rattle.csr.specs.Field.{Field, Fixed, Covered, Any, Only, Hidden, widthOf, takesOf, showsOf, holdsOf, digit, writeFrom, readFrom, legalFrom, writeOf, readOf, legalOf, bitsOf, fits, allFit, seen, allSeen}
 
 join : (a b : Bool) → a ≡ true → b ≡ true → (a && b) ≡ true
 join a b h g = rw (h, g)
@@ -184,3 +184,15 @@ legal-is fs r m g o h l =
 pub passes : (fs : List Field) (r m w : ℕ) → allFit fs ≡ true → allSeen fs ≡ true → legalOf fs r ≡ true → m < 2 ^ bitsOf fs → w ≡ writeOf fs r m
     → eqb w m ≡ legalOf fs m
 passes fs r m w g o h l e = ap (λ (x : ℕ). eqb x m) e ∙ sym (legal-is fs r m g o h l)
+
+-- the i-th field of a row, from bit k upward, holds one of its values
+abbrev pub HoldsAt : (i k : ℕ) → List Field → ℕ → Type 0
+HoldsAt i k [] m = Unit {0}
+HoldsAt zero k (f ∷ fs) m = holdsOf f (digit k (widthOf f) m) ≡ true
+HoldsAt (suc i) k (f ∷ fs) m = HoldsAt i (k + widthOf f) fs m
+
+-- each field of a word that the CSR can hold does
+pub each : (i k : ℕ) (fs : List Field) (m : ℕ) → legalFrom k fs m ≡ true → HoldsAt i k fs m
+each i k [] m h = tt
+each zero k (f ∷ fs) m h = both (holdsOf f (digit k (widthOf f) m)) (legalFrom (k + widthOf f) fs m) h .0
+each (suc i) k (f ∷ fs) m h = each i (k + widthOf f) fs m (both (holdsOf f (digit k (widthOf f) m)) (legalFrom (k + widthOf f) fs m) h .1)

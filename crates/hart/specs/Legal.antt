@@ -6,7 +6,7 @@ use lib.ListN.{getD}
 use Rattle.csr.specs.Field.{legalOf}
 use Rattle.csr.specs.Row.{rowOf}
 use Rattle.csr.specs.declared.Csr.{Csr}
-use Rattle.csr.specs.declared.Csr.the-variants.{Ssp, Stvec, Senvcfg, Sscratch, Sepc, Scause, Stval, Satp, Mstatus, Medeleg, Mtvec, Menvcfg, Mscratch, Mepc, Mcause, Mtval, Mseccfg}
+use Rattle.csr.specs.declared.Csr.the-variants.{Stvec, Senvcfg, Sscratch, Sepc, Scause, Stval, Satp, Mstatus, Medeleg, Mtvec, Menvcfg, Mscratch, Mepc, Mcause, Mtval, Mseccfg}
 use Rattle.hart.specs.declared.Hart.{Hart}
 use Rattle.hart.specs.declared.Csrs.{Csrs}
 

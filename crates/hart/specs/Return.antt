@@ -1,6 +1,5 @@
 -- MRET and SRET.
 use mathlib.Core.Bool.{Bool, _&&_}
-use Prim.Native.Nat.{ℕ}
 use Rattle.page.specs.declared.Mode.{Mode}
 use Rattle.csr.specs.Mode.{numberOf}
 use Rattle.csr.specs.Status.{bitOf, leaveM, leaveS, backM, backS}

@@ -1,5 +1,5 @@
 -- Trap entry.
-use mathlib.Core.Bool.{Bool, false, _&&_}
+use mathlib.Core.Bool.{Bool, false}
 use Prim.Native.Nat.{ℕ}
 use Rattle.word.specs.Choice.{pick}
 use Rattle.page.specs.declared.Mode.{Mode}

@@ -1,9 +1,12 @@
 -- The laws of tables.
 -- Assumes nothing.
-use mathlib.Core.Path.{_≡_, refl}
+use mathlib.Core.Bool.{Bool, true, false}
+use mathlib.Core.Path.{_≡_, refl, ap, _∙_}
 use Prim.Native.Nat.{ℕ}
-use borrow.Author.Tests.{ne-eqb}
-use Rattle.word.specs.Choice.{Table, _⇒_¦_, otherwise, look, rest, Missed}
+use lib.Dec.{eqb}
+use borrow.Author.Tests.{ne-eqb, eqb-true}
+use Rattle.word.specs.Choice.{Table, _⇒_¦_, otherwise, pick, look, rest, every, Missed}
+use Rattle.word.proofs.Bools.{both}
 
 -- what was said before a table's keys still holds behind them
 behind : {A : Type 0} (n : ℕ) (t : Table A) (U : Type 0) → Missed n t U → U
@@ -22,3 +25,15 @@ missed n t m = missed-behind n t (Unit {0}) m
 -- a key that is known: what a `match` knows in an arm, `.match .keys1`, gives what the table says there
 pub hit : {A : Type 0} (t : Table A) {n k : ℕ} → n ≡ k → look k t ≡ look n t
 hit t e = rw e
+
+-- a test that every row passes, and what stands for the other keys too, is passed by whatever is looked up
+one-passes : {A : Type 0} (test : ℕ → A → Bool) (n k : ℕ) (a b : A) (same : Bool) → eqb n k ≡ same → test k a ≡ true → test n b ≡ true
+    → test n (pick same a b) ≡ true
+one-passes test n k a b true e h g = ap (λ (i : ℕ). test i a) (eqb-true n k e) ∙ h
+one-passes test n k a b false e h g = g
+
+pub checked : {A : Type 0} (test : ℕ → A → Bool) (n : ℕ) (t : Table A) → every test t ≡ true → test n (rest t) ≡ true → test n (look n t) ≡ true
+checked test n (k ⇒ a ¦ t) h g =
+    let (p, q) = both (test k a) (every test t) h in
+    one-passes test n k a (look n t) (eqb n k) refl p (checked test n t q g)
+checked test n (otherwise a) h g = g

@@ -1,5 +1,5 @@
 -- Choices by a test, and tables by a key: what every definition that goes by cases is made of.
-use mathlib.Core.Bool.{Bool, true, false}
+use mathlib.Core.Bool.{Bool, true, false, _&&_}
 use mathlib.Core.Path.{_≡_}
 use Prim.Native.Nat.{ℕ}
 use lib.Dec.{eqb}
@@ -28,3 +28,8 @@ rest (otherwise a) = a
 abbrev pub Missed : {A : Type 0} → ℕ → Table A → Type 0 → Type 0
 Missed n (k ⇒ a ¦ t) U = Missed n t (U × (n ≡ k → ⊥))
 Missed n (otherwise a) U = U
+
+-- every row passes a test of its key and what it stands for
+abbrev pub every : {A : Type 0} → (ℕ → A → Bool) → Table A → Bool
+every test (k ⇒ a ¦ t) = test k a && every test t
+every test (otherwise a) = true

@@ -8,4 +8,8 @@ use Rattle.csr.proofs.legal.envcfg.Statement.{statement}
 use Rattle.csr.proofs.legal.envcfg.Tie as tie
 
 pub envcfg-spec : {M : Type 1} → statement M
-envcfg-spec = tie.close (tie.spec (λ c κs. search needs) (λ c. passes envcfg 0 (c .before .args .m) _ refl refl refl (omega arith) (c .envcfg .ensures)))
+envcfg-spec =
+    tie.close
+    (tie.spec
+    (λ c κs. search needs)
+    (λ c. passes envcfg 0 (c .before .args .m) _ refl refl refl (omega arith) (c .envcfg .ensures)))

@@ -8,4 +8,8 @@ use Rattle.csr.proofs.legal.fours.Statement.{statement}
 use Rattle.csr.proofs.legal.fours.Tie as tie
 
 pub fours-spec : {M : Type 1} → statement M
-fours-spec = tie.close (tie.spec (λ c κs. search needs) (λ c. passes fours 0 (c .before .args .m) _ refl refl refl (omega arith) (c .fours .ensures)))
+fours-spec =
+    tie.close
+    (tie.spec
+    (λ c κs. search needs)
+    (λ c. passes fours 0 (c .before .args .m) _ refl refl refl (omega arith) (c .fours .ensures)))

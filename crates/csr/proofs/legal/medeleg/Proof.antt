@@ -8,4 +8,8 @@ use Rattle.csr.proofs.legal.medeleg.Statement.{statement}
 use Rattle.csr.proofs.legal.medeleg.Tie as tie
 
 pub medeleg-spec : {M : Type 1} → statement M
-medeleg-spec = tie.close (tie.spec (λ c κs. search needs) (λ c. passes medeleg 0 (c .before .args .m) _ refl refl refl (omega arith) (c .medeleg .ensures)))
+medeleg-spec =
+    tie.close
+    (tie.spec
+    (λ c κs. search needs)
+    (λ c. passes medeleg 0 (c .before .args .m) _ refl refl refl (omega arith) (c .medeleg .ensures)))

@@ -8,4 +8,8 @@ use Rattle.csr.proofs.legal.mseccfg.Statement.{statement}
 use Rattle.csr.proofs.legal.mseccfg.Tie as tie
 
 pub mseccfg-spec : {M : Type 1} → statement M
-mseccfg-spec = tie.close (tie.spec (λ c κs. search needs) (λ c. passes mseccfg 0 (c .before .args .m) _ refl refl refl (omega arith) (c .mseccfg .ensures)))
+mseccfg-spec =
+    tie.close
+    (tie.spec
+    (λ c κs. search needs)
+    (λ c. passes mseccfg 0 (c .before .args .m) _ refl refl refl (omega arith) (c .mseccfg .ensures)))

@@ -9,4 +9,8 @@ use Rattle.csr.proofs.legal.mstatus.Statement.{statement}
 use Rattle.csr.proofs.legal.mstatus.Tie as tie
 
 pub mstatus-spec : {M : Type 1} → statement M
-mstatus-spec = tie.close (tie.spec (λ c κs. search needs) (λ c. passes mstatus start (c .before .args .m) _ refl refl refl (omega arith) (c .write .ensures)))
+mstatus-spec =
+    tie.close
+    (tie.spec
+    (λ c κs. search needs)
+    (λ c. passes mstatus start (c .before .args .m) _ refl refl refl (omega arith) (c .write .ensures)))

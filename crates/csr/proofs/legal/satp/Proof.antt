@@ -8,4 +8,8 @@ use Rattle.csr.proofs.legal.satp.Statement.{statement}
 use Rattle.csr.proofs.legal.satp.Tie as tie
 
 pub satp-spec : {M : Type 1} → statement M
-satp-spec = tie.close (tie.spec (λ c κs. search needs) (λ c. passes satp 0 (c .before .args .m) _ refl refl refl (omega arith) (c .satp .ensures)))
+satp-spec =
+    tie.close
+    (tie.spec
+    (λ c κs. search needs)
+    (λ c. passes satp 0 (c .before .args .m) _ refl refl refl (omega arith) (c .satp .ensures)))

@@ -11,4 +11,10 @@ returns c = rw (c .word .ensures, c .before .trapped-m .ensures, c .before .befo
 
 pub enter-m-spec : {M : Type 1} → statement M
 enter-m-spec =
-    tie.close (tie.spec (λ c κs. search needs) (λ c κs. search needs) (λ c κs. search needs) (λ c κs. rw (c .trapped-m .ensures) (omega (arith, c .before .number .ensures .1))) returns)
+    tie.close
+    (tie.spec
+    (λ c κs. search needs)
+    (λ c κs. search needs)
+    (λ c κs. search needs)
+    (λ c κs. rw (c .trapped-m .ensures) (omega (arith, c .before .number .ensures .1)))
+    returns)

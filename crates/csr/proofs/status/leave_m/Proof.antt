@@ -10,4 +10,10 @@ unfolding leaveM
 returns c = rw (c .word .ensures, c .before .returned-m .ensures, c .before .before .split .ensures .0)
 
 pub leave-m-spec : {M : Type 1} → statement M
-leave-m-spec = tie.close (tie.spec (λ c κs. search needs) (λ c κs. search needs) (λ c κs. rw (c .returned-m .ensures) (omega arith)) returns)
+leave-m-spec =
+    tie.close
+    (tie.spec
+    (λ c κs. search needs)
+    (λ c κs. search needs)
+    (λ c κs. rw (c .returned-m .ensures) (omega arith))
+    returns)

@@ -9,4 +9,10 @@ unfolding leaveS
 returns c = rw (c .word .ensures, c .before .returned-s .ensures, c .before .before .split .ensures .0)
 
 pub leave-s-spec : {M : Type 1} → statement M
-leave-s-spec = tie.close (tie.spec (λ c κs. search needs) (λ c κs. search needs) (λ c κs. rw (c .returned-s .ensures) (c .before .split .ensures .1)) returns)
+leave-s-spec =
+    tie.close
+    (tie.spec
+    (λ c κs. search needs)
+    (λ c κs. search needs)
+    (λ c κs. rw (c .returned-s .ensures) (c .before .split .ensures .1))
+    returns)

@@ -7,4 +7,9 @@ use Rattle.csr.proofs.status.shown.Statement.{statement}
 use Rattle.csr.proofs.status.shown.Tie as tie
 
 pub shown-spec : {M : Type 1} → statement M
-shown-spec = tie.close (tie.spec (λ c κs. search needs) (λ c κs. search needs) (λ c. c .word .ensures ∙ ap wordOf (c .before .split .ensures .0) ∙ sym (shows (c .before .before .args .m))))
+shown-spec =
+    tie.close
+    (tie.spec
+    (λ c κs. search needs)
+    (λ c κs. search needs)
+    (λ c. c .word .ensures ∙ ap wordOf (c .before .split .ensures .0) ∙ sym (shows (c .before .before .args .m))))

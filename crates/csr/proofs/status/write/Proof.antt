@@ -4,6 +4,18 @@ use borrow.Author.Needs.{needs}
 use Rattle.csr.proofs.status.write.Statement.{statement}
 use Rattle.csr.proofs.status.write.Tie as tie
 
+returns : tie.Need-returns
+returns c =
+    let b = c .before .before in
+    let a = b .before .before .args in
+    written (a .old) (a .v) _ _ _ _ (b .before .split .ensures .0) (b .taken .ensures .0) (c .before .with-mpp .ensures) (c .word .ensures)
+
 pub write-spec : {M : Type 1} → statement M
 write-spec =
-    tie.close (tie.spec (λ c κs. search needs) (λ c κs. search needs) (λ c κs. search needs) (λ c κs. rw (c .with-mpp .ensures) (c .before .taken .ensures .1)) (λ c. written (c .before .before .before .before .args .old) (c .before .before .before .before .args .v) _ _ _ _ (c .before .before .before .split .ensures .0) (c .before .before .taken .ensures .0) (c .before .with-mpp .ensures) (c .word .ensures)))
+    tie.close
+    (tie.spec
+    (λ c κs. search needs)
+    (λ c κs. search needs)
+    (λ c κs. search needs)
+    (λ c κs. rw (c .with-mpp .ensures) (c .before .taken .ensures .1))
+    returns)

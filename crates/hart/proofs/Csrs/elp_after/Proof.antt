@@ -4,4 +4,9 @@ use Rattle.hart.proofs.Csrs.elp_after.Statement.{statement}
 use Rattle.hart.proofs.Csrs.elp_after.Tie as tie
 
 pub elp-after-spec : {M : Type 1} → statement M
-elp-after-spec = tie.close (tie.spec (λ c κs. search needs) (λ c κs. search needs) (λ c. rw (c .both .ensures, c .before .pad .ensures)))
+elp-after-spec =
+    tie.close
+    (tie.spec
+    (λ c κs. search needs)
+    (λ c κs. search needs)
+    (λ c. rw (c .both .ensures, c .before .pad .ensures)))

@@ -6,7 +6,9 @@ use Rattle.hart.proofs.Csrs.legal.Tie as tie
 
 returns : tie.Need-returns
 unfolding csrsLegal
-returns c = let b = c .before .before .before in rw (c .all .ensures, c .before .machine-legal .ensures, c .before .before .satp .ensures, b .fours2 .ensures, b .before .envcfg .ensures, b .before .before .fours .ensures)
+returns c =
+    let b = c .before .before .before in
+    rw (c .all .ensures, c .before .machine-legal .ensures, c .before .before .satp .ensures, b .fours2 .ensures, b .before .envcfg .ensures, b .before .before .fours .ensures)
 
 pub legal-spec : {M : Type 1} → statement M
 legal-spec =

@@ -3,6 +3,21 @@ use borrow.Author.Needs.{needs}
 use Rattle.hart.proofs.Csrs.machine_legal.Statement.{statement}
 use Rattle.hart.proofs.Csrs.machine_legal.Tie as tie
 
+returns : tie.Need-returns
+returns c =
+    let b = c .before .before .before in
+    let d = b .before .before .before in
+    rw (
+      c .all .ensures,
+      c .before .both .ensures,
+      c .before .before .mseccfg .ensures,
+      b .fours2 .ensures,
+      b .before .envcfg .ensures,
+      b .before .before .fours .ensures,
+      d .medeleg .ensures,
+      d .before .mstatus .ensures,
+    )
+
 pub machine-legal-spec : {M : Type 1} → statement M
 machine-legal-spec =
     tie.close
@@ -15,4 +30,4 @@ machine-legal-spec =
     (λ c κs. search needs)
     (λ c κs. search needs)
     (λ c κs. search needs)
-    (λ c. let b = c .before .before .before in rw (c .all .ensures, c .before .both .ensures, c .before .before .mseccfg .ensures, b .fours2 .ensures, b .before .envcfg .ensures, b .before .before .fours .ensures, b .before .before .before .medeleg .ensures, b .before .before .before .before .mstatus .ensures)))
+    returns)

@@ -1,0 +1,4 @@
+pub mod Slots
+pub mod Lawful
+pub mod Written
+pub mod Kept

@@ -1,0 +1,71 @@
+-- Reading back what was written, for every CSR: a read after a write shows what each field took; another CSR shows what it did.
+-- Assumes nothing.
+use mathlib.Core.Path.{_≡_, refl}
+use mathlib.Core.Bool.{Bool, true, false}
+use Prim.Native.Nat.{ℕ, _^_, _<_}
+use Rattle.page.specs.declared.Mode.the-variants.{User}
+use Rattle.csr.specs.Field.{writeOf, readOf}
+use Rattle.csr.specs.Row.{rowOf, isView}
+use Rattle.csr.specs.Enable.{sseOf}
+use Rattle.csr.specs.Reach.{reachOf}
+use Rattle.csr.specs.declared.Csr.{Csr}
+use Rattle.csr.specs.declared.Csr.the-variants.{Ssp, Sstatus, Stvec, Senvcfg, Sscratch, Sepc, Scause, Stval, Satp, Mstatus, Medeleg, Mtvec, Menvcfg, Mscratch, Mepc, Mcause, Mtval, Mseccfg}
+use Rattle.csr.specs.declared.reach.Reached.the-variants.{To}
+use Rattle.csr.proofs.Rows.{backOf, back, shown}
+use Rattle.csr.proofs.Made.{all-fit, all-seen, sixty-four}
+use Rattle.csr.proofs.Users.{user-ssp}
+use Rattle.hart.specs.Setters.{withSsp, storedOf, putOf}
+use Rattle.hart.specs.Access.{shownOf, writtenOf, csrWriteOf}
+use Rattle.hart.specs.Legal.{holds}
+use Rattle.hart.specs.declared.Hart.{Hart}
+use Rattle.hart.specs.declared.Csrs.{Csrs}
+use Rattle.hart.proofs.Slots.{slotOf, same, other}
+use Rattle.hart.proofs.Lawful.{left-by-write}
+
+-- a write does not change the row of its own CSR: menvcfg's is always the same, and no other changes menvcfg.SSE
+row-stays : (n : Csr) (w : ℕ) (c : Csrs) → rowOf n (sseOf (putOf n w c .menvcfg)) ≡ rowOf n (sseOf (c .menvcfg))
+row-stays Ssp w c = refl
+row-stays Sstatus w c = refl
+row-stays Stvec w c = refl
+row-stays Senvcfg w c = refl
+row-stays Sscratch w c = refl
+row-stays Sepc w c = refl
+row-stays Scause w c = refl
+row-stays Stval w c = refl
+row-stays Satp w c = refl
+row-stays Mstatus w c = refl
+row-stays Medeleg w c = refl
+row-stays Mtvec w c = refl
+row-stays Menvcfg w c = refl
+row-stays Mscratch w c = refl
+row-stays Mepc w c = refl
+row-stays Mcause w c = refl
+row-stays Mtval w c = refl
+row-stays Mseccfg w c = refl
+
+-- a read after a write of v shows what each field took
+pub read-back : (n : Csr) (v : ℕ) (h : Hart)
+    → shownOf n (csrWriteOf n v h .ssp) (csrWriteOf n v h .csrs) ≡ backOf (rowOf n (sseOf (h .csrs .menvcfg))) (storedOf n (h .ssp) (h .csrs)) v
+unfolding csrWriteOf writtenOf shownOf
+read-back n v h =
+    let sse : Bool = sseOf (h .csrs .menvcfg) in
+    let old : ℕ = storedOf n (h .ssp) (h .csrs) in
+    let w : ℕ = writeOf (rowOf n sse) old v in
+    rw (row-stays n w (h .csrs), same n n w (h .ssp) (h .csrs) refl) (back (rowOf n sse) old v (all-fit n sse))
+
+-- a value that the CSR can hold is read back as it was written, where a write reaches every field
+pub same-back : (n : Csr) (v : ℕ) (h : Hart) → isView n ≡ false → sseOf (h .csrs .menvcfg) ≡ true → v < 2 ^ 64 → holds n v ≡ true
+    → readOf (rowOf n true) (storedOf n (csrWriteOf n v h .ssp) (csrWriteOf n v h .csrs)) ≡ v
+same-back n v h e s l t = rw (left-by-write n h v e s l t) (shown (rowOf n true) v (all-seen n e) (rw (sixty-four n true) l) t)
+
+-- a write of one CSR leaves every other word as it was; sstatus and mstatus have one word
+pub others-stay : (k n : Csr) (v : ℕ) (h : Hart) → (slotOf k ≡ slotOf n → ⊥)
+    → storedOf k (csrWriteOf n v h .ssp) (csrWriteOf n v h .csrs) ≡ storedOf k (h .ssp) (h .csrs)
+unfolding csrWriteOf
+others-stay k n v h d = other k n (writtenOf n v (h .ssp) (h .csrs)) (h .ssp) (h .csrs) d
+
+-- a CSR write that U may make changes ssp and nothing else
+pub user-write : (permitted : Bool) (address : ℕ) (n : Csr) (v : ℕ) (h : Hart) → reachOf User permitted address ≡ To n
+    → csrWriteOf n v h ≡ withSsp (writtenOf Ssp v (h .ssp) (h .csrs)) h
+unfolding csrWriteOf
+user-write permitted address n v h e = rw (user-ssp permitted address n e)
