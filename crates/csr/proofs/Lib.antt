@@ -1,4 +1,2 @@
-pub mod Rows
-pub mod Packed
 pub mod Made
 pub mod Users

@@ -6,7 +6,7 @@ use Prim.Native.Nat.{ℕ}
 use lib.Dec.{eqb}
 use borrow.Author.Tests.{eqb-true}
 use Rattle.word.proofs.Bools.{both}
-use Rattle.csr.specs.Field.{legalOf, bitsOf, allFit, allSeen, wellMade}
+use Rattle.word.specs.Row.{legalOf, bitsOf, allFit, allSeen, wellMade}
 use Rattle.csr.specs.Row.{rowOf, isView}
 use Rattle.csr.specs.declared.Csr.{Csr}
 use Rattle.csr.specs.declared.Csr.the-variants.{Ssp, Sstatus, Stvec, Senvcfg, Sscratch, Sepc, Scause, Stval, Satp, Mstatus, Medeleg, Mtvec, Menvcfg, Mscratch, Mepc, Mcause, Mtval, Mseccfg}

@@ -3,7 +3,7 @@ use mathlib.Core.Bool.{Bool, true, false, _&&_}
 use Prim.Native.Nat.{ℕ}
 use Rattle.page.specs.declared.Mode.{Mode}
 use Rattle.page.specs.declared.Mode.the-variants.{User, Supervisor, Machine}
-use Rattle.csr.specs.Status.{bitOf}
+use Rattle.word.specs.Row.{bitOf}
 
 -- SSE of an envcfg
 abbrev pub sseOf : (envcfg : ℕ) → Bool

@@ -5,7 +5,7 @@ use lib.Dec.{ltb}
 use Rattle.word.specs.Choice.{pick, Table, _⇒_¦_, otherwise, look}
 use Rattle.word.specs.Field.{bits}
 use Rattle.page.specs.declared.Mode.{Mode}
-use Rattle.csr.specs.Mode.{numberOf}
+use Rattle.status.specs.Mode.{numberOf}
 use Rattle.csr.specs.declared.Csr.the-variants.{Ssp, Sstatus, Stvec, Senvcfg, Sscratch, Sepc, Scause, Stval, Satp, Mstatus, Medeleg, Mtvec, Menvcfg, Mscratch, Mepc, Mcause, Mtval, Mseccfg}
 use Rattle.csr.specs.declared.reach.Reached.{Reached}
 use Rattle.csr.specs.declared.reach.Reached.the-variants.{To, Illegal}

@@ -1,15 +1,16 @@
 // Which words a CSR can hold: exactly those that a write of them, over a word that it can hold, leaves as they are.
 use super::row;
-use super::status;
+use status::access;
 ghost use mathlib.Core.Path.{_≡_};
-ghost use Rattle.csr.specs.Field.{legalOf};
-ghost use Rattle.csr.specs.Row.{mstatus, medeleg, fours, satp, envcfg, mseccfg};
+ghost use Rattle.word.specs.Row.{legalOf};
+ghost use Rattle.status.specs.Fields.{mstatus};
+ghost use Rattle.csr.specs.Row.{medeleg, fours, satp, envcfg, mseccfg};
 
 // Over mstatus with nothing set, UXL and SXL 2.
 pub fn mstatus(m: u64) -> bool
     ensures { λ r. ⌜ r ≡ legalOf mstatus m ⌝ }
 {
-    status::write(0xa_0000_0000, m) == m
+    access::write(0xa_0000_0000, m) == m
 }
 
 pub fn medeleg(m: u64) -> bool

@@ -1,12 +1,10 @@
 // The rules of single CSRs, on numbers: which address names which CSR and which mode may touch it, what a write leaves and
-// a read shows, which words a CSR can hold, what they switch on, and what a trap and a return make of mstatus.
+// a read shows, which words a CSR can hold, and what they switch on. mstatus' own rules stand in crate `status`.
+pub mod access;
 pub mod enable;
 pub mod legal;
-pub mod mode;
 pub mod reach;
 mod row;
-pub mod status;
-pub mod write;
 
 // The CSRs of document 01, in its order.
 pub enum Csr {

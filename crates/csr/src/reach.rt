@@ -1,7 +1,7 @@
 // Which CSR an address names, and whether a mode may touch it.
 use super::Csr;
-use super::mode;
 use page::Mode;
+use status::mode;
 ghost use mathlib.Core.Path.{_≡_};
 ghost use Rattle.word.specs.Choice.{look};
 ghost use Rattle.csr.specs.Reach.{addresses, reachOf};

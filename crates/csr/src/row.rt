@@ -3,7 +3,7 @@ ghost use mathlib.Core.Path.{_≡_};
 ghost use mathlib.Core.Bool.{_||_};
 ghost use Prim.Native.Nat.{_<_};
 ghost use Rattle.word.specs.Choice.{pick};
-ghost use Rattle.csr.specs.Field.{Only, digit, takesOf, writeOf, readOf};
+ghost use Rattle.word.specs.Row.{Only, digit, takesOf, writeOf, readOf};
 ghost use Rattle.csr.specs.Row.{isPmm, isScheme, medeleg, word, fours, eights, satp, envcfg, envcfgHeld, mseccfg};
 
 // Scratch, cause and tval.

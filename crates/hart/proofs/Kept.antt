@@ -5,10 +5,10 @@ use mathlib.Core.Bool.{Bool, true, false}
 use Prim.Native.Nat.{ℕ}
 use Rattle.word.specs.Choice.{pick}
 use Rattle.word.proofs.Choices.{first, second}
-use Rattle.csr.specs.Mode.{modeOf}
-use Rattle.csr.specs.Status.{statusOf}
-use Rattle.csr.specs.declared.status.Status.{Status}
-use Rattle.csr.proofs.Packed.{enter-m-fields, enter-s-fields, leave-m-fields, leave-s-fields}
+use Rattle.status.specs.Mode.{modeOf}
+use Rattle.status.specs.Status.{statusOf}
+use Rattle.status.specs.declared.Status.{Status}
+use Rattle.status.proofs.Packed.{enter-m-fields, enter-s-fields, leave-m-fields, leave-s-fields}
 use Rattle.hart.specs.Trap.{toS, delegatedOf, trapM, trapS, trapOf}
 use Rattle.hart.specs.Return.{mretOf, sretOf}
 use Rattle.hart.specs.declared.Hart.{Hart}

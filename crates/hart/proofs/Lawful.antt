@@ -13,16 +13,17 @@ use Rattle.word.specs.Choice.{Table, _⇒_¦_, otherwise, pick, look}
 use Rattle.word.proofs.Bools.{both}
 use Rattle.page.specs.declared.Mode.{Mode}
 use Rattle.page.specs.declared.Mode.the-variants.{User, Supervisor, Machine}
-use Rattle.csr.specs.Field.{Field, digit, writeOf, legalOf}
-use Rattle.csr.specs.Row.{eights, fours, word, envcfg, satp, mstatus, medeleg, mseccfg, rowOf, isView}
+use Rattle.word.specs.Row.{Field, digit, writeOf, legalOf}
+use Rattle.status.specs.Fields.{mstatus}
+use Rattle.csr.specs.Row.{eights, fours, word, envcfg, satp, medeleg, mseccfg, rowOf, isView}
 use Rattle.csr.specs.Enable.{sseOf}
-use Rattle.csr.specs.Mode.{numberOf, modeOf}
-use Rattle.csr.specs.Status.{enterM, enterS, leaveM, leaveS, backM, backS}
+use Rattle.status.specs.Mode.{numberOf, modeOf}
+use Rattle.status.specs.Status.{enterM, enterS, leaveM, leaveS, mppMode, sppMode}
 use Rattle.csr.specs.declared.Csr.{Csr}
 use Rattle.csr.specs.declared.Csr.the-variants.{Ssp, Sstatus, Stvec, Senvcfg, Sscratch, Sepc, Scause, Stval, Satp, Mstatus, Medeleg, Mtvec, Menvcfg, Mscratch, Mepc, Mcause, Mtval, Mseccfg}
-use Rattle.csr.proofs.Rows.{left, kept, each}
+use Rattle.word.proofs.Rows.{left, kept, each}
 use Rattle.csr.proofs.Made.{all-fit, all-seen, sixty-four, alike}
-use Rattle.csr.proofs.Packed.{enter-m-legal, enter-s-legal, leave-m-legal, leave-s-legal}
+use Rattle.status.proofs.Packed.{enter-m-legal, enter-s-legal, leave-m-legal, leave-s-legal}
 use Rattle.hart.specs.Setters.{startOf, storedOf, putOf, pointerOf}
 use Rattle.hart.specs.Access.{writtenOf, csrWriteOf}
 use Rattle.hart.specs.Legal.{holds, csrsLegal, isMode, legal}
@@ -237,7 +238,7 @@ unfolding mretOf
 mret-lawful h l = record {
   zero = l .zero;
   pc = four (h .csrs .mepc) (l .held Mepc);
-  mode = number-mode (backM (h .csrs .mstatus));
+  mode = number-mode (mppMode (h .csrs .mstatus));
   held = put-held Mstatus (leaveM (h .csrs .mstatus)) (h .ssp) (h .csrs) (leave-m-legal (h .csrs .mstatus)) (l .held);
 }
 
@@ -246,7 +247,7 @@ unfolding sretOf
 sret-lawful h l = record {
   zero = l .zero;
   pc = four (h .csrs .sepc) (l .held Sepc);
-  mode = number-mode (backS (h .csrs .mstatus));
+  mode = number-mode (sppMode (h .csrs .mstatus));
   held = put-held Mstatus (leaveS (h .csrs .mstatus)) (h .ssp) (h .csrs) (leave-s-legal (h .csrs .mstatus) (l .held Mstatus)) (l .held);
 }
 

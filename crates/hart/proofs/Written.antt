@@ -4,14 +4,14 @@ use mathlib.Core.Path.{_≡_, refl}
 use mathlib.Core.Bool.{Bool, true, false}
 use Prim.Native.Nat.{ℕ, _^_, _<_}
 use Rattle.page.specs.declared.Mode.the-variants.{User}
-use Rattle.csr.specs.Field.{writeOf, readOf}
+use Rattle.word.specs.Row.{writeOf, readOf}
 use Rattle.csr.specs.Row.{rowOf, isView}
 use Rattle.csr.specs.Enable.{sseOf}
 use Rattle.csr.specs.Reach.{reachOf}
 use Rattle.csr.specs.declared.Csr.{Csr}
 use Rattle.csr.specs.declared.Csr.the-variants.{Ssp, Sstatus, Stvec, Senvcfg, Sscratch, Sepc, Scause, Stval, Satp, Mstatus, Medeleg, Mtvec, Menvcfg, Mscratch, Mepc, Mcause, Mtval, Mseccfg}
 use Rattle.csr.specs.declared.reach.Reached.the-variants.{To}
-use Rattle.csr.proofs.Rows.{backOf, back, shown}
+use Rattle.word.proofs.Rows.{backOf, back, shown}
 use Rattle.csr.proofs.Made.{all-fit, all-seen, sixty-four}
 use Rattle.csr.proofs.Users.{user-ssp}
 use Rattle.hart.specs.Setters.{withSsp, storedOf, putOf}

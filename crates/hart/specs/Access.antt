@@ -1,7 +1,7 @@
 -- Reading and writing a CSR of the hart.
 use Prim.Native.Nat.{ℕ}
 use Rattle.csr.specs.declared.Csr.{Csr}
-use Rattle.csr.specs.Field.{writeOf, readOf}
+use Rattle.word.specs.Row.{writeOf, readOf}
 use Rattle.csr.specs.Row.{rowOf}
 use Rattle.csr.specs.Enable.{sseOf}
 use Rattle.hart.specs.Setters.{withSsp, withCsrs, storedOf, putOf, pointerOf}

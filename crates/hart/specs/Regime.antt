@@ -3,8 +3,9 @@ use mathlib.Core.Bool.{Bool}
 use Prim.Native.Nat.{ℕ, _/_, _%_, _^_}
 use lib.Dec.{eqb}
 use Rattle.address.specs.declared.control.Control.{Control}
-use Rattle.csr.specs.Mode.{modeOf}
-use Rattle.csr.specs.Status.{bitOf, backM}
+use Rattle.status.specs.Mode.{modeOf}
+use Rattle.word.specs.Row.{bitOf}
+use Rattle.status.specs.Status.{mppMode}
 use Rattle.csr.specs.Enable.{sseOf, shadowOf, padOf}
 use Rattle.hart.specs.declared.Hart.{Hart}
 
@@ -18,7 +19,7 @@ unfoldable pub controlOf : (mode mstatus satp menvcfg senvcfg mseccfg : ℕ) →
 controlOf mode mstatus satp menvcfg senvcfg mseccfg = record {
   mode = modeOf mode;
   mprv = bitOf mstatus 17;
-  mpp = backM mstatus;
+  mpp = mppMode mstatus;
   sv39 = eqb (satp / 2 ^ 60) 8;
   sum = bitOf mstatus 18;
   mxr = bitOf mstatus 19;

@@ -1,8 +1,9 @@
 -- MRET and SRET.
 use mathlib.Core.Bool.{Bool, _&&_}
 use Rattle.page.specs.declared.Mode.{Mode}
-use Rattle.csr.specs.Mode.{numberOf}
-use Rattle.csr.specs.Status.{bitOf, leaveM, leaveS, backM, backS}
+use Rattle.status.specs.Mode.{numberOf}
+use Rattle.word.specs.Row.{bitOf}
+use Rattle.status.specs.Status.{leaveM, leaveS, mppMode, sppMode}
 use Rattle.csr.specs.Enable.{padOf}
 use Rattle.hart.specs.Setters.{withPc, withMode, withElp, withCsrs, withMstatus}
 use Rattle.hart.specs.declared.Hart.{Hart}
@@ -19,11 +20,11 @@ backIn h new saved = withMode (numberOf new) (withElp (elpAfter (h .csrs) new sa
 -- MRET: to MPP at mepc, with MPELP
 unfoldable pub mretOf : Hart → Hart
 mretOf h =
-    backIn (withCsrs (withMstatus (leaveM (h .csrs .mstatus)) (h .csrs)) (withPc (h .csrs .mepc) h)) (backM (h .csrs .mstatus))
+    backIn (withCsrs (withMstatus (leaveM (h .csrs .mstatus)) (h .csrs)) (withPc (h .csrs .mepc) h)) (mppMode (h .csrs .mstatus))
     (bitOf (h .csrs .mstatus) 41)
 
 -- SRET: to SPP at sepc, with SPELP
 unfoldable pub sretOf : Hart → Hart
 sretOf h =
-    backIn (withCsrs (withMstatus (leaveS (h .csrs .mstatus)) (h .csrs)) (withPc (h .csrs .sepc) h)) (backS (h .csrs .mstatus))
+    backIn (withCsrs (withMstatus (leaveS (h .csrs .mstatus)) (h .csrs)) (withPc (h .csrs .sepc) h)) (sppMode (h .csrs .mstatus))
     (bitOf (h .csrs .mstatus) 23)

@@ -4,8 +4,9 @@ use Prim.Native.Nat.{ℕ}
 use Rattle.word.specs.Choice.{pick}
 use Rattle.page.specs.declared.Mode.{Mode}
 use Rattle.page.specs.declared.Mode.the-variants.{User, Supervisor, Machine}
-use Rattle.csr.specs.Mode.{modeOf}
-use Rattle.csr.specs.Status.{bitOf, enterM, enterS}
+use Rattle.status.specs.Mode.{modeOf}
+use Rattle.word.specs.Row.{bitOf}
+use Rattle.status.specs.Status.{enterM, enterS}
 use Rattle.hart.specs.Setters.{withPc, withMode, withElp, withCsrs, withMstatus, withMepc, withMcause, withMtval, withSepc, withScause, withStval}
 use Rattle.hart.specs.declared.Hart.{Hart}
 use Rattle.hart.specs.declared.Csrs.{Csrs}

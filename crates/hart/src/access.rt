@@ -3,8 +3,8 @@ use super::Csrs;
 use super::Hart;
 use super::setters;
 use csr::Csr;
+use csr::access;
 use csr::enable;
-use csr::write;
 ghost use mathlib.Core.Path.{_≡_};
 ghost use Rattle.hart.specs.Access.{shownOf, writtenOf, csrWriteOf};
 
@@ -13,14 +13,14 @@ impl Csrs {
     pub fn shown(self, n: Csr, ssp: u64) -> u64
         ensures { λ r. ⌜ r ≡ shownOf n ssp self ⌝ }
     {
-        write::read(n, enable::sse(self.menvcfg), self.stored(n, ssp))
+        access::read(n, enable::sse(self.menvcfg), self.stored(n, ssp))
     }
 
     // The word that a write of v to CSR n leaves.
     pub fn written(self, n: Csr, v: u64, ssp: u64) -> u64
         ensures { λ r. ⌜ r ≡ writtenOf n v ssp self ⌝ }
     {
-        write::write(n, enable::sse(self.menvcfg), self.stored(n, ssp), v)
+        access::write(n, enable::sse(self.menvcfg), self.stored(n, ssp), v)
     }
 }
 

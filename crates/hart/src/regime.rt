@@ -1,8 +1,8 @@
 // The regime of the hart's accesses: what translation needs to know of the mode and the CSRs.
 use address::control::Control;
 use csr::enable;
-use csr::mode;
-use csr::status;
+use status::mode;
+use status::returns;
 ghost use mathlib.Core.Path.{_≡_};
 ghost use Rattle.hart.specs.Regime.{controlOf};
 
@@ -20,7 +20,7 @@ pub fn control(
     Control {
         mode: mode::mode(mode),
         mprv: mstatus / 0x2_0000 % 2 == 1,
-        mpp: status::back_m(mstatus),
+        mpp: returns::mpp_mode(mstatus),
         sv39: satp / 0x1000_0000_0000_0000 == 8,
         sum: mstatus / 0x4_0000 % 2 == 1,
         mxr: mstatus / 0x8_0000 % 2 == 1,

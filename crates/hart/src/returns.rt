@@ -2,9 +2,9 @@
 use super::Csrs;
 use super::Hart;
 use csr::enable;
-use csr::mode;
-use csr::status;
 use page::Mode;
+use status::mode;
+use status::returns;
 ghost use mathlib.Core.Path.{_≡_};
 ghost use mathlib.Core.Bool.{_&&_};
 ghost use Rattle.hart.specs.Return.{elpAfter, backIn, mretOf, sretOf};
@@ -45,8 +45,8 @@ impl Hart {
         let c = self.csrs;
         let m = c.mstatus;
         self.pc = c.mepc;
-        self.csrs = c.with_mstatus(status::leave_m(m));
-        self.back_in(status::back_m(m), m / 0x200_0000_0000 % 2 == 1)
+        self.csrs = c.with_mstatus(returns::leave_m(m));
+        self.back_in(returns::mpp_mode(m), m / 0x200_0000_0000 % 2 == 1)
     }
 
     // SRET: to SPP at sepc, with SPELP.
@@ -56,7 +56,7 @@ impl Hart {
         let c = self.csrs;
         let m = c.mstatus;
         self.pc = c.sepc;
-        self.csrs = c.with_mstatus(status::leave_s(m));
-        self.back_in(status::back_s(m), m / 0x80_0000 % 2 == 1)
+        self.csrs = c.with_mstatus(returns::leave_s(m));
+        self.back_in(returns::spp_mode(m), m / 0x80_0000 % 2 == 1)
     }
 }

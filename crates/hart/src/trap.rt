@@ -1,9 +1,9 @@
 // Trap entry.
 use super::Csrs;
 use super::Hart;
-use csr::mode;
-use csr::status;
 use page::Mode;
+use status::mode;
+use status::trap;
 use word::shift;
 ghost use mathlib.Core.Path.{_≡_};
 ghost use Rattle.hart.specs.Trap.{delegatedOf, toS, savedM, savedS, trapOf};
@@ -34,7 +34,7 @@ impl Csrs {
     fn saved_m(mut self, pc: u64, from: Mode, elp: bool, cause: u64, tval: u64) -> Csrs
         ensures { λ r. ⌜ r ≡ savedM self pc from elp cause tval ⌝ }
     {
-        self.mstatus = status::enter_m(self.mstatus, from, elp);
+        self.mstatus = trap::enter_m(self.mstatus, from, elp);
         self.mepc = pc;
         self.mcause = cause;
         self.mtval = tval;
@@ -45,7 +45,7 @@ impl Csrs {
     fn saved_s(mut self, pc: u64, from: Mode, elp: bool, cause: u64, tval: u64) -> Csrs
         ensures { λ r. ⌜ r ≡ savedS self pc from elp cause tval ⌝ }
     {
-        self.mstatus = status::enter_s(self.mstatus, from, elp);
+        self.mstatus = trap::enter_s(self.mstatus, from, elp);
         self.sepc = pc;
         self.scause = cause;
         self.stval = tval;

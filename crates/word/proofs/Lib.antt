@@ -10,3 +10,4 @@ pub mod Filling
 pub mod Orders
 pub mod Sums
 pub mod Below
+pub mod Rows

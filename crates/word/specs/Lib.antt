@@ -5,3 +5,4 @@ pub mod Immediate
 pub mod Sum
 pub mod Order
 pub mod Shift
+pub mod Row

@@ -2,7 +2,7 @@
 use mathlib.Core.Path.{refl}
 use native.Mathlib.Omega.{arith}
 use Rattle.csr.specs.Row.{medeleg}
-use Rattle.csr.proofs.Rows.{passes}
+use Rattle.word.proofs.Rows.{passes}
 use borrow.Author.Needs.{needs}
 use Rattle.csr.proofs.legal.medeleg.Statement.{statement}
 use Rattle.csr.proofs.legal.medeleg.Tie as tie

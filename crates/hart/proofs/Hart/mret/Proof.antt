@@ -6,7 +6,7 @@ use Rattle.hart.proofs.Hart.mret.Tie as tie
 
 returns : tie.Need-returns
 unfolding mretOf
-returns c = rw (c .back-in .ensures, c .before .back-m .ensures, c .before .before .with-mstatus .ensures, c .before .before .before .leave-m .ensures)
+returns c = rw (c .back-in .ensures, c .before .mpp-mode .ensures, c .before .before .with-mstatus .ensures, c .before .before .before .leave-m .ensures)
 
 pub mret-spec : {M : Type 1} → statement M
 mret-spec =

@@ -6,7 +6,7 @@ use Rattle.hart.proofs.Hart.sret.Tie as tie
 
 returns : tie.Need-returns
 unfolding sretOf
-returns c = rw (c .back-in .ensures, c .before .back-s .ensures, c .before .before .with-mstatus .ensures, c .before .before .before .leave-s .ensures)
+returns c = rw (c .back-in .ensures, c .before .spp-mode .ensures, c .before .before .with-mstatus .ensures, c .before .before .before .leave-s .ensures)
 
 pub sret-spec : {M : Type 1} → statement M
 sret-spec =

@@ -2,7 +2,7 @@
 use mathlib.Core.Path.{_≡_, sym, _∙_}
 use mathlib.Core.Bool.{true, false}
 use Rattle.word.proofs.Choices.{first, second}
-use Rattle.csr.specs.Mode.{modeOf}
+use Rattle.status.specs.Mode.{modeOf}
 use Rattle.hart.specs.Trap.{toS, delegatedOf, trapOf}
 use borrow.Author.Needs.{needs}
 use Rattle.hart.proofs.Hart.trap.Statement.{statement}

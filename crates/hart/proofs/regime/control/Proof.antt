@@ -6,7 +6,7 @@ use Rattle.hart.proofs.regime.control.Tie as tie
 
 returns : tie.Need-returns
 unfolding controlOf
-returns c = rw (c .sse .ensures, c .before .back-m .ensures, c .before .before .mode .ensures)
+returns c = rw (c .sse .ensures, c .before .mpp-mode .ensures, c .before .before .mode .ensures)
 
 pub control-spec : {M : Type 1} → statement M
 control-spec =

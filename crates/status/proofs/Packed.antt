@@ -1,0 +1,136 @@
+-- mstatus: its struct and its word.
+-- Assumes nothing.
+use mathlib.Core.Path.{_≡_, refl, sym, ap, _∙_}
+use mathlib.Core.Bool.{Bool, true, false}
+use Prim.Native.Nat.{ℕ, zero, suc, _+_, _*_, _/_, _%_, _^_, _<_}
+use native.Mathlib.Omega.{arith}
+use lib.Dec.{eqb}
+use Rattle.page.specs.declared.Mode.{Mode}
+use Rattle.page.specs.declared.Mode.the-variants.{User, Supervisor, Machine}
+use Rattle.word.specs.Row.{writeOf, readOf, legalOf}
+use Rattle.status.specs.Fields.{isMode, mstatus, sstatus}
+use Rattle.status.specs.Mode.{numberOf}
+use Rattle.status.specs.Status.{num, statusOf, wordOf, withMpp, mergedOf, throughOf, isSupervisor, trappedM, trappedS, returnedM, returnedS, enterM, enterS, leaveM, leaveS}
+use Rattle.status.specs.declared.Status.{Status}
+use Rattle.word.proofs.Rows.{left, each}
+
+parity : (d : ℕ) → d < 2 → num (eqb d 1) ≡ d
+parity zero h = refl
+parity (suc zero) h = refl
+parity (suc (suc d)) h = absurd (omega arith)
+
+num-bit : (x : ℕ) → num (eqb (x % 2) 1) ≡ x % 2
+num-bit x = parity (x % 2) (omega arith)
+
+-- a write of the word is a write of the struct
+pub merges : (old v : ℕ) → writeOf mstatus old v ≡ wordOf (mergedOf (statusOf old) (statusOf v))
+merges old v = simp num-bit (omega arith)
+
+-- so is a write through sstatus
+pub views : (old v : ℕ) → writeOf sstatus old v ≡ wordOf (throughOf (statusOf old) (statusOf v))
+views old v = simp num-bit (omega arith)
+
+-- a read of the word is a read of the struct
+pub shows : (m : ℕ) → readOf mstatus m ≡ wordOf (statusOf m)
+shows m = simp num-bit (omega arith)
+
+-- as the code goes
+pub written : (old v mode w : ℕ) (s t : Status) → s ≡ statusOf v → mode ≡ mergedOf (statusOf old) (statusOf v) .mpp → t ≡ withMpp s mode → w ≡ wordOf t
+    → w ≡ writeOf mstatus old v
+written old v mode w s t a b c d =
+    d ∙ ap wordOf (c ∙ ap (λ (x : Status). withMpp x mode) a ∙ ap (λ (k : ℕ). withMpp (statusOf v) k) b) ∙ sym (merges old v)
+
+-- the digits of the sum
+module _ (a b c d e p f g h i j : ℕ) (ha : a < 2) (hb : b < 2) (hc : c < 2) (hd : d < 2) (he : e < 2) (hp : p < 4) (hf : f < 2) (hg : g < 2) (hh : h < 2)
+    (hi : i < 2) (hj : j < 2) where
+  abbrev total : ℕ
+  total =
+      a * 2 ^ 1 + b * 2 ^ 3 + c * 2 ^ 5 + d * 2 ^ 7 + e * 2 ^ 8 + p * 2 ^ 11 + f * 2 ^ 17 + g * 2 ^ 18 + h * 2 ^ 19 + i * 2 ^ 23 + 2 * 2 ^ 32 + 2 * 2 ^ 34
+      + j * 2 ^ 41
+
+  digits :
+      (total / 2 ^ 1 % 2 ≡ a) × (total / 2 ^ 3 % 2 ≡ b) × (total / 2 ^ 5 % 2 ≡ c) × (total / 2 ^ 7 % 2 ≡ d) × (total / 2 ^ 8 % 2 ≡ e) × (total / 2 ^ 11 % 4 ≡ p)
+      × (total / 2 ^ 17 % 2 ≡ f) × (total / 2 ^ 18 % 2 ≡ g) × (total / 2 ^ 19 % 2 ≡ h) × (total / 2 ^ 23 % 2 ≡ i) × (total / 2 ^ 41 % 2 ≡ j)
+  digits =
+      (omega arith, omega arith, omega arith, omega arith, omega arith, omega arith, omega arith, omega arith, omega arith, omega arith, omega arith)
+
+small : (b : Bool) → num b < 2
+small true = omega arith
+small false = omega arith
+
+read : (b : Bool) → eqb (num b) 1 ≡ b
+read true = refl
+read false = refl
+
+-- the struct survives its word
+pub unpacked : (s : Status) → s .mpp < 4 → statusOf (wordOf s) ≡ s
+unpacked s l =
+    let (a, b, c, d, e, p, f, g, h, i, j) =
+    digits (num (s .sie)) (num (s .mie)) (num (s .spie)) (num (s .mpie)) (num (s .spp)) (s .mpp) (num (s .mprv)) (num (s .sum)) (num (s .mxr)) (num (s .spelp))
+    (num (s .mpelp)) (small (s .sie)) (small (s .mie)) (small (s .spie)) (small (s .mpie)) (small (s .spp)) l (small (s .mprv)) (small (s .sum))
+    (small (s .mxr)) (small (s .spelp)) (small (s .mpelp)) in
+    rw (a, b, c, d, e, p, f, g, h, i, j) (simp read)
+
+-- nothing set, UXL and SXL 2
+abbrev pub start : ℕ
+start = 2 * 2 ^ 32 + 2 * 2 ^ 34
+
+merged-same : (r s : Status) → isMode (s .mpp) ≡ true → mergedOf r s ≡ s
+merged-same r s ok = rw ok
+
+-- a struct whose MPP is a mode makes a word that mstatus can hold
+pub packed : (s : Status) → s .mpp < 4 → isMode (s .mpp) ≡ true → legalOf mstatus (wordOf s) ≡ true
+packed s l ok =
+    let e : writeOf mstatus start (wordOf s) ≡ wordOf s =
+    merges start (wordOf s) ∙ ap (λ (t : Status). wordOf (mergedOf (statusOf start) t)) (unpacked s l) ∙ ap wordOf (merged-same (statusOf start) s ok) in
+    rw (e) at (left mstatus start (wordOf s) refl refl)
+
+-- a word that mstatus can hold has a mode in MPP
+pub modes : (m : ℕ) → legalOf mstatus m ≡ true → isMode (statusOf m .mpp) ≡ true
+modes m h = each 10 0 mstatus m h
+
+number-small : (m : Mode) → numberOf m < 4
+number-small User = omega arith
+number-small Supervisor = omega arith
+number-small Machine = omega arith
+
+number-mode : (m : Mode) → isMode (numberOf m) ≡ true
+number-mode User = refl
+number-mode Supervisor = refl
+number-mode Machine = refl
+
+-- a trap to M leaves a word that mstatus can hold, whatever was there
+pub enter-m-legal : (m : ℕ) (from : Mode) (elp : Bool) → legalOf mstatus (enterM m from elp) ≡ true
+unfolding enterM
+enter-m-legal m from elp =
+    packed (trappedM (statusOf m) (numberOf from) elp) (number-small from) (number-mode from)
+
+-- a trap to S, MRET and SRET leave one where one was
+pub enter-s-legal : (m : ℕ) (from : Mode) (elp : Bool) → legalOf mstatus m ≡ true → legalOf mstatus (enterS m from elp) ≡ true
+unfolding enterS
+enter-s-legal m from elp h = packed (trappedS (statusOf m) (isSupervisor from) elp) (omega arith) (modes m h)
+
+pub leave-m-legal : (m : ℕ) → legalOf mstatus (leaveM m) ≡ true
+unfolding leaveM
+leave-m-legal m = packed (returnedM (statusOf m)) (omega arith) refl
+
+pub leave-s-legal : (m : ℕ) → legalOf mstatus m ≡ true → legalOf mstatus (leaveS m) ≡ true
+unfolding leaveS
+leave-s-legal m h = packed (returnedS (statusOf m)) (omega arith) (modes m h)
+
+-- and their fields are those of the struct
+pub enter-m-fields : (m : ℕ) (from : Mode) (elp : Bool) → statusOf (enterM m from elp) ≡ trappedM (statusOf m) (numberOf from) elp
+unfolding enterM
+enter-m-fields m from elp = unpacked (trappedM (statusOf m) (numberOf from) elp) (number-small from)
+
+pub enter-s-fields : (m : ℕ) (from : Mode) (elp : Bool) → statusOf (enterS m from elp) ≡ trappedS (statusOf m) (isSupervisor from) elp
+unfolding enterS
+enter-s-fields m from elp = unpacked (trappedS (statusOf m) (isSupervisor from) elp) (omega arith)
+
+pub leave-m-fields : (m : ℕ) → statusOf (leaveM m) ≡ returnedM (statusOf m)
+unfolding leaveM
+leave-m-fields m = unpacked (returnedM (statusOf m)) (omega arith)
+
+pub leave-s-fields : (m : ℕ) → statusOf (leaveS m) ≡ returnedS (statusOf m)
+unfolding leaveS
+leave-s-fields m = unpacked (returnedS (statusOf m)) (omega arith)
