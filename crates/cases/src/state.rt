@@ -2,7 +2,10 @@
 // order of `hart::Csrs`. Among the given numbers they follow the operation and its two arguments, among the
 // wanted ones two that tell what came out.
 ghost use mathlib.Core.Path.{_≡_};
-ghost use lib.ListN.{length};
+ghost use lib.Dec.{eqb};
+ghost use lib.ListN.{getD, length};
+ghost use Rattle.hart.specs.Setters.{startOf};
+ghost use Rattle.cases.specs.State.{Registers, csrsOf};
 use hart::Csrs;
 use hart::Hart;
 use hart::setters;
@@ -20,7 +23,9 @@ pub struct Came {
     pub hart: Hart,
 }
 
-fn registers(n: &[u64; MOST]) -> [u64; 32] {
+fn registers(n: &[u64; MOST]) -> [u64; 32]
+    ensures { λ r. ⌜ Registers (now (n .entry)) r ⌝ }
+{
     let mut x = [0u64; 32];
     let mut i = 0;
     while i < 32 {
@@ -30,7 +35,9 @@ fn registers(n: &[u64; MOST]) -> [u64; 32] {
     x
 }
 
-fn csrs(mut c: Csrs, n: &[u64; MOST]) -> Csrs {
+fn csrs(mut c: Csrs, n: &[u64; MOST]) -> Csrs
+    ensures { λ r. ⌜ r ≡ csrsOf (now (n .entry)) c ⌝ }
+{
     c.stvec = n[39];
     c.senvcfg = n[40];
     c.sscratch = n[41];
@@ -52,7 +59,9 @@ fn csrs(mut c: Csrs, n: &[u64; MOST]) -> Csrs {
 
 // The hart that is given.
 pub fn given(n: &[u64; MOST]) -> Hart
-    ensures { λ r. ⌜ r .pc ≡ r .pc ⌝ }
+    ensures { λ r. ⌜ (r .pc ≡ getD (now (n .entry)) 3 0) × Registers (now (n .entry)) (r .x) ⌝ }
+    ensures { λ r. ⌜ (r .mode ≡ getD (now (n .entry)) 36 0) × (r .elp ≡ eqb (getD (now (n .entry)) 37 0) 1) ⌝ }
+    ensures { λ r. ⌜ (r .ssp ≡ getD (now (n .entry)) 38 0) × (r .csrs ≡ csrsOf (now (n .entry)) (startOf .csrs)) ⌝ }
 {
     let mut h = setters::start();
     let x = registers(n);
