@@ -42,11 +42,11 @@ MARKED = {**START, "pc": 0x80000400, **{f"x{n}": 0x100 + n for n in range(1, 32)
 # The operations: of each its number, its arguments, and which answers it can have.
 OPERATIONS = {
     "read": (0, ["csr"], "shown"),
-    "write": (1, ["csr", "value"], "hart"),
+    "write": (1, ["csr", "value"], "written"),
     "legal": (2, [], "verdict"),
-    "trap": (3, ["cause", "tval"], "hart"),
-    "mret": (4, [], "hart"),
-    "sret": (5, [], "hart"),
+    "trap": (3, ["cause", "tval"], "changed"),
+    "mret": (4, [], "changed"),
+    "sret": (5, [], "changed"),
     "shadow": (6, [], "switch"),
     "swap": (7, [], "legality"),
     "pad": (8, [], "switch"),
@@ -93,10 +93,11 @@ def with_settings(hart, words, must_change):
     after, taken = dict(hart), dict.fromkeys(PARTS, 0)
     for word, name, text in settings(words):
         part, low, bits = named(name)
-        if name in OF_MODES and text in MODES:
-            text = str(MODES[text])
         most = 1 if part == "elp" else (1 << bits) - 1
-        value = number(text, 0, most, f"value of {name}")
+        if name in OF_MODES and text.isalpha():
+            value = choice(text, {mode: n for mode, n in MODES.items() if n <= most}, f"value of {name}")
+        else:
+            value = number(text, 0, most, f"value of {name}")
         mask = ((1 << bits) - 1) << low
         if taken[part] & mask:
             raise Wrong(f"'{word}' says again what was said of {part}: say it once")
@@ -129,12 +130,15 @@ def answer(kind, text, hart):
     """What comes of an operation: the two numbers, and the hart after."""
     if kind in NO_OR_VALUE:
         return choice(text, NO_OR_VALUE[kind], "answer here"), hart
-    if text == "illegal":
+    if text == "illegal" and kind != "changed":
         return [1, 0], hart
     if kind == "shown":
         return [0, number(text, 0, LARGEST, "value that a read shows, nor 'illegal'")], hart
     if text == "nothing changes":
         return [0, 0], hart
+    if "=" not in text:
+        raise Wrong(f"'{text}' is no answer here: write what changes as NAME=VALUE .., or `nothing changes`"
+                    + (", or `illegal`" if kind == "written" else ""))
     return [0, 0], with_settings(hart, text.split(), True)
 
 
@@ -146,13 +150,13 @@ class HartCase(Case):
 
 
 class Maker:
-    """The maker of one manifest: its name, the hart that its cases start from, and the operations that stand in it."""
+    """The maker of one manifest: its name, the hart that its cases start from, the operations that stand in it, and a case."""
 
-    def __init__(self, name, hart, operations):
-        self.name, self.hart, self.operations = name, hart, operations
+    def __init__(self, name, hart, operations, example):
+        self.name, self.hart, self.operations, self.example = name, hart, operations, example
 
     def case(self, line, text):
-        given, wanted, remark = parts(text, "mode=S menvcfg.SSE=1 read ssp", "0x7F8")
+        given, wanted, remark = parts(text, *self.example)
         words = given.split()
         at = next((i for i, word in enumerate(words) if "=" not in word), len(words))
         if at == len(words) or words[at] not in self.operations:
@@ -173,10 +177,10 @@ class Maker:
 
 # In the order in which the program runs them.
 MAKERS = [
-    Maker("access", MARKED, ["read", "write"]),
-    Maker("csr", MARKED, ["read", "write"]),
-    Maker("enable", START, ["shadow", "swap", "pad"]),
-    Maker("legal", START, ["legal"]),
-    Maker("trap", MARKED, ["trap"]),
-    Maker("returns", MARKED, ["mret", "sret"]),
+    Maker("access", MARKED, ["read", "write"], ("mode=S read 0x105", "0x200")),
+    Maker("csr", MARKED, ["read", "write"], ("mstatus.MPP=S write mstatus 0x1008", "mstatus.MIE=1")),
+    Maker("enable", START, ["shadow", "swap", "pad"], ("mode=S menvcfg.SSE=1 shadow", "on")),
+    Maker("legal", START, ["legal"], ("mode=2 legal", "refused")),
+    Maker("trap", MARKED, ["trap"], ("mode=U medeleg=0x0 trap 8 0", "pc=0x300 mode=M mepc=0x80000400 mcause=8 mtval=0")),
+    Maker("returns", MARKED, ["mret", "sret"], ("mstatus.MPP=U mret", "pc=0x304 mode=U mstatus.MPIE=1")),
 ]
