@@ -3,9 +3,11 @@
 // wanted ones two that tell what came out.
 ghost use mathlib.Core.Path.{_≡_};
 ghost use lib.Dec.{eqb};
-ghost use lib.ListN.{getD, length};
+ghost use lib.ListN.{getD, length, replicate};
+ghost use lib.Seq.{paste};
+ghost use Rattle.csr.specs.Status.{num};
 ghost use Rattle.hart.specs.Setters.{startOf};
-ghost use Rattle.cases.specs.State.{Registers, csrsOf};
+ghost use Rattle.cases.specs.State.{Registers, csrsOf, shownOf};
 use hart::Csrs;
 use hart::Hart;
 use hart::setters;
@@ -75,38 +77,39 @@ pub fn given(n: &[u64; MOST]) -> Hart
     h
 }
 
-fn bit(b: bool) -> u64 {
+fn bit(b: bool) -> u64
+    ensures { λ r. ⌜ r ≡ num b ⌝ }
+{
     if b { 1 } else { 0 }
 }
 
-// The numbers of what came out and of the hart, without its CSRs.
-fn shown_hart(came: Came) -> [u64; 54]
-    ensures { λ r. ⌜ 54 ≡ length r ⌝ }
+// The registers at their place, among zeros.
+fn placed(x: [u64; 32]) -> [u64; 54]
+    ensures { λ r. ⌜ (54 ≡ length r) × (32 ≡ length x) × (r ≡ paste (replicate 54 0) 3 x 32) ⌝ }
 {
-    let h = came.hart;
-    let x = h.x;
     let mut got = [0u64; 54];
     let mut i = 0;
     while i < 32 {
-        got[i + 3] = x[i];
+        got[3 + i] = x[i];
         i += 1;
     }
+    got
+}
+
+// The numbers of what came, to be held against the wanted ones.
+pub fn shown(came: Came) -> [u64; 54]
+    ensures { λ r. ⌜ (54 ≡ length r) × (r ≡ shownOf came) ⌝ }
+{
+    let h = came.hart;
+    let x = h.x;
+    let c = h.csrs;
+    let mut got = placed(x);
     got[0] = bit(came.no);
     got[1] = came.value;
     got[2] = h.pc;
     got[35] = h.mode;
     got[36] = bit(h.elp);
     got[37] = h.ssp;
-    got
-}
-
-// The wanted numbers of what came.
-pub fn shown(came: Came) -> [u64; 54]
-    ensures { λ r. ⌜ 54 ≡ length r ⌝ }
-{
-    let h = came.hart;
-    let c = h.csrs;
-    let mut got = shown_hart(came);
     got[38] = c.stvec;
     got[39] = c.senvcfg;
     got[40] = c.sscratch;
