@@ -19,10 +19,14 @@ mod bytes;
 mod decode;
 // Pointer masking alone.
 mod mask;
+// CSRs, refusal 1, traps and returns: what is done to a hart.
+mod operation;
 // From address to byte.
 mod place;
 // Refusals 2 and 3.
 mod refused;
+// The numbers of a hart.
+mod state;
 // The width that a number of bytes names.
 mod width;
 
@@ -33,6 +37,7 @@ enum Subject {
     Place,
     Bytes,
     Refused,
+    Hart,
 }
 
 // 262,144 zeros, for a whole file.
@@ -53,6 +58,7 @@ fn run(subject: Subject, c: Counts, s: &[u8], at: Line, numbers: &[u64; MOST]) -
         Subject::Place => place::judge(c, s, at, numbers),
         Subject::Bytes => bytes::judge(c, s, at, numbers),
         Subject::Refused => refused::judge(c, s, at, numbers),
+        Subject::Hart => operation::judge(c, s, at, numbers),
     }
 }
 
@@ -119,5 +125,11 @@ fn main() {
     let place = file(Subject::Place, mask, b"place.txt");
     let bytes = file(Subject::Bytes, place, b"bytes.txt");
     let refused = file(Subject::Refused, bytes, b"refused.txt");
-    report::total(refused);
+    let access = file(Subject::Hart, refused, b"access.txt");
+    let csr = file(Subject::Hart, access, b"csr.txt");
+    let enable = file(Subject::Hart, csr, b"enable.txt");
+    let legal = file(Subject::Hart, enable, b"legal.txt");
+    let trap = file(Subject::Hart, legal, b"trap.txt");
+    let returns = file(Subject::Hart, trap, b"returns.txt");
+    report::total(returns);
 }

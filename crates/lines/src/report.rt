@@ -168,6 +168,76 @@ pub fn judged(c: Counts, s: &[u8], at: Line, wanted: &[u64], got: &[u64]) -> Cou
     failed(c)
 }
 
+// Where the name after the one that starts at `at` starts. A blank ends a name.
+fn next_name(names: &[u8], at: usize) -> usize
+    requires { ⌜ at ≤ length (now names) ⌝ }
+    ensures { λ r. ⌜ (at ≤ r) × (r ≤ length (now (names .entry))) ⌝ }
+{
+    let mut i = at;
+    while i < names.len() {
+        if names[i] == b' ' {
+            return i + 1;
+        }
+        i += 1;
+    }
+    i
+}
+
+// A number that is not the wanted one; of one that is, nothing.
+fn print_difference(name: &[u8], wanted: u64, got: u64) {
+    if wanted != got {
+        print(b" ");
+        print(name);
+        print(b"0x");
+        io::print_hex(STDOUT_FILENO, got, 1);
+        print(b" (wanted 0x");
+        io::print_hex(STDOUT_FILENO, wanted, 1);
+        print(b")");
+    }
+}
+
+fn print_differences(names: &[u8], wanted: &[u64], got: &[u64])
+    requires { ⌜ length (now wanted) ≡ length (now got) ⌝ }
+{
+    let mut i = 0;
+    let mut at = 0;
+    while i < wanted.len() {
+        let next = next_name(names, at);
+        print_difference(&names[at..next], wanted[i], got[i]);
+        at = next;
+        i += 1;
+    }
+}
+
+fn print_differing(s: &[u8], text: usize, names: &[u8], wanted: &[u64], got: &[u64])
+    requires { ⌜ text ≤ length (now s) ⌝ }
+    requires { ⌜ length (now wanted) ≡ length (now got) ⌝ }
+{
+    print(b"FAILED ");
+    print(&s[text..]);
+    print(b": got");
+    print_differences(names, wanted, got);
+    print(b"\n");
+}
+
+// A case of many numbers that was run, as `judged`; printed are its text and, by name, the numbers that are
+// not the wanted ones. Each name in `names` has a blank after it.
+pub fn compared(c: Counts, s: &[u8], at: Line, names: &[u8], wanted: &[u64], got: &[u64]) -> Counts
+    requires { ⌜ at .text ≤ length (now s) ⌝ }
+    requires { ⌜ length (now wanted) ≡ length (now got) ⌝ }
+    ensures { λ r. ⌜ r .cases ≡ oneMore (c .cases) ⌝ }
+    ensures { λ r. ⌜ (now (wanted .entry) ≡ now (got .entry) → r .failed ≡ c .failed) ⌝ }
+    ensures { λ r. ⌜ ((now (wanted .entry) ≡ now (got .entry) → ⊥) → r .failed ≡ oneMore (c .failed)) ⌝ }
+{
+    let text = at.text;
+    if same(wanted, got) {
+        print_ok(s, 0, text);
+        return passed(c);
+    }
+    print_differing(s, text, names, wanted, got);
+    failed(c)
+}
+
 // The last line.
 pub fn total(c: Counts) -> Counts
     ensures { λ r. ⌜ r ≡ c ⌝ }
