@@ -1,4 +1,4 @@
-"""The cases on a hart: from vectors/access.txt, csr.txt, enable.txt, legal.txt, trap.txt and returns.txt.
+"""The cases on a hart: from vectors/access.txt, csr.txt, enable.txt, regime.txt, legal.txt, trap.txt and returns.txt.
 
 A case is `[SETTING ..] OPERATION | ANSWER`: the hart of the file with these settings, what is done, and what comes of it.
 A line of the data is `operation first second hart = no value hart`: the operation's number and its two arguments (0 where
@@ -50,7 +50,11 @@ OPERATIONS = {
     "shadow": (6, [], "switch"),
     "swap": (7, [], "legality"),
     "pad": (8, [], "switch"),
+    "regime": (9, ["access"], "regime"),
 }
+KINDS = {"fetch": 0, "load": 1, "store": 2, "push": 3, "pop": 4, "swap": 5}
+# What a regime says, and what each counts in the value that comes out.
+REGIME = {"mode": 1, "sv39": 4, "sum": 8, "mxr": 16, "sse": 32, "masked": 64}
 NO_OR_VALUE = {
     "verdict": {"accepted": [0, 0], "refused": [1, 0]},
     "switch": {"off": [0, 0], "on": [0, 1]},
@@ -122,14 +126,27 @@ def arguments(name, words):
     wanted = OPERATIONS[name][1]
     if len(words) != len(wanted):
         raise Wrong(f"'{name}' with {len(words)} words after it: write `{' '.join([name] + [w.upper() for w in wanted])}`")
-    numbers = [csr(word) if what == "csr" else number(word, 0, LARGEST, what) for what, word in zip(wanted, words)]
+    readers = {"csr": csr, "access": lambda word: choice(word, KINDS, "kind of access")}
+    numbers = [readers[what](word) if what in readers else number(word, 0, LARGEST, what) for what, word in zip(wanted, words)]
     return (numbers + [0, 0])[:2]
+
+
+def regime(text):
+    """The value of `mode=S sv39=1 sum=0 mxr=0 sse=1 masked=7`: every part, in this order."""
+    words = [word.partition("=") for word in text.split()]
+    if [name for name, _, _ in words] != list(REGIME):
+        raise Wrong(f"'{text}' is no regime: write `mode=S sv39=1 sum=0 mxr=0 sse=1 masked=7`, each part and in this order")
+    values = [choice(value, MODES, "mode") if name == "mode" else number(value, 0, 16 if name == "masked" else 1, name)
+              for name, _, value in words]
+    return sum(value * weight for value, weight in zip(values, REGIME.values()))
 
 
 def answer(kind, text, hart):
     """What comes of an operation: the two numbers, and the hart after."""
     if kind in NO_OR_VALUE:
         return choice(text, NO_OR_VALUE[kind], "answer here"), hart
+    if kind == "regime":
+        return [0, regime(text)], hart
     if text == "illegal" and kind != "changed":
         return [1, 0], hart
     if kind == "shown":
@@ -180,6 +197,7 @@ MAKERS = [
     Maker("access", MARKED, ["read", "write"], ("mode=S read 0x105", "0x200")),
     Maker("csr", MARKED, ["read", "write"], ("mstatus.MPP=S write mstatus 0x1008", "mstatus.MIE=1")),
     Maker("enable", START, ["shadow", "swap", "pad"], ("mode=S menvcfg.SSE=1 shadow", "on")),
+    Maker("regime", START, ["regime"], ("mode=S satp.MODE=8 regime load", "mode=S sv39=1 sum=0 mxr=0 sse=0 masked=0")),
     Maker("legal", START, ["legal"], ("mode=2 legal", "refused")),
     Maker("trap", MARKED, ["trap"], ("mode=U medeleg=0x0 trap 8 0", "pc=0x300 mode=M mepc=0x80000400 mcause=8 mtval=0")),
     Maker("returns", MARKED, ["mret", "sret"], ("mstatus.MPP=U mret", "pc=0x304 mode=U mstatus.MPIE=1")),

@@ -10,7 +10,7 @@ ghost use Prim.Native.Nat.{_^_, _<_, _≤_};
 ghost use Rattle.address.specs.Mask.{pmlenOf, maskOf, transformedOf};
 
 // PMLEN: the number of masked bits that a PMM means.
-fn pmlen(pmm: u8) -> u64
+pub fn pmlen(pmm: u8) -> u64
     ensures { λ r. ⌜ (r ≡ pmlenOf pmm) × (r ≤ 16) ⌝ }
 {
     match pmm {

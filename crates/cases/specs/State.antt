@@ -6,7 +6,7 @@ use mathlib.Core.Path.{_≡_}
 use Prim.Native.Nat.{ℕ, _+_, _<_}
 use lib.ListN.{getD, length}
 use Rattle.hart.specs.Setters.{withStvec, withSenvcfg, withSscratch, withSepc, withScause, withStval, withSatp, withMstatus, withMedeleg, withMtvec, withMenvcfg, withMscratch, withMepc, withMcause, withMtval, withMseccfg}
-use Rattle.csr.specs.Status.{num}
+use Rattle.status.specs.Status.{num}
 use Rattle.hart.specs.declared.Csrs.{Csrs}
 use Rattle.hart.specs.declared.Hart.{Hart}
 use Rattle.cases.specs.declared.state.Came.{Came}

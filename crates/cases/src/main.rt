@@ -128,7 +128,8 @@ fn main() {
     let access = file(Subject::Hart, refused, b"access.txt");
     let csr = file(Subject::Hart, access, b"csr.txt");
     let enable = file(Subject::Hart, csr, b"enable.txt");
-    let legal = file(Subject::Hart, enable, b"legal.txt");
+    let regime = file(Subject::Hart, enable, b"regime.txt");
+    let legal = file(Subject::Hart, regime, b"legal.txt");
     let trap = file(Subject::Hart, legal, b"trap.txt");
     let returns = file(Subject::Hart, trap, b"returns.txt");
     report::total(returns);

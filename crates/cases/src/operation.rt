@@ -2,7 +2,7 @@
 //
 // The operations are: 0 read the CSR at an address, 1 write a value to it, 2 whether refusal 1 lets the hart
 // pass, 3 a trap with a cause and a tval, 4 MRET, 5 SRET, and in the hart's mode 6 the active shadow enable,
-// 7 whether a swap may be executed, 8 the pad enable. An argument that an operation does not have is 0. The
+// 7 whether a swap may be executed, 8 the pad enable, 9 the regime of an access. An argument that an operation does not have is 0. The
 // wanted numbers are 1 for illegal or refused, the value that comes out (an enable's is 1 where it is on),
 // and the hart after it.
 ghost use mathlib.Core.Path.{_≡_};
@@ -10,20 +10,24 @@ ghost use Prim.Native.Nat.{_≤_};
 ghost use Rattle.lines.specs.Counted.{oneMore};
 ghost use Rattle.lines.specs.Most.{most};
 ghost use lib.ListN.{length};
+use super::place;
 use super::state;
 use super::state::Came;
 use super::state::GIVEN;
 use super::state::WANTED;
+use address::control;
+use address::mask;
 use csr::enable;
-use csr::mode;
-use csr::reach;
 use csr::reach::Reached;
 use hart::Hart;
+use hart::access;
+use hart::regime;
 use lines::line::Line;
 use lines::line::MOST;
 use lines::report;
 use lines::report::Counts;
 use lines::report::Fault;
+use status::mode;
 
 fn value(v: u64, hart: Hart) -> Came {
     Came {
@@ -49,16 +53,13 @@ fn verdict(legal: bool, hart: Hart) -> Came {
 
 fn reached(h: Hart, address: u64) -> Reached {
     let c = h.csrs;
-    let m = mode::mode(h.mode);
-    let permitted = enable::permits(m, c.menvcfg, c.senvcfg);
-    reach::reach(m, permitted, (address % 0x1000) as u16)
+    access::reached(h.mode, c.menvcfg, c.senvcfg, (address % 0x1000) as u16)
 }
 
 fn read(h: Hart, address: u64) -> Came {
-    let c = h.csrs;
     let r = reached(h, address);
     match r {
-        Reached::To(n) => value(c.shown(n, h.ssp), h),
+        Reached::To(n) => value(h.csr_read(n), h),
         Reached::Illegal => verdict(false, h),
     }
 }
@@ -73,7 +74,7 @@ fn write(h: Hart, address: u64, v: u64) -> Came {
 
 fn shadow(h: Hart) -> Came {
     let c = h.csrs;
-    switch(enable::shadow(mode::mode(h.mode), c.menvcfg, c.senvcfg), h)
+    switch(regime::shadow(h.mode, c.menvcfg, c.senvcfg), h)
 }
 
 fn swap(h: Hart) -> Came {
@@ -83,10 +84,24 @@ fn swap(h: Hart) -> Came {
 
 fn pad(h: Hart) -> Came {
     let c = h.csrs;
-    switch(
-        enable::pad(mode::mode(h.mode), c.menvcfg, c.senvcfg, c.mseccfg),
-        h,
-    )
+    switch(regime::pad(h.mode, c.menvcfg, c.senvcfg, c.mseccfg), h)
+}
+
+fn counted(b: bool, n: u64) -> u64
+    ensures { λ r. ⌜ r ≤ n ⌝ }
+{
+    if b { n } else { 0 }
+}
+
+// The regime of an access of a kind: the effective mode, and 4 where Sv39 is in force, 8 for SUM, 16 for MXR, 32
+// for menvcfg.SSE, and 64 times the masked bits.
+fn regime(h: Hart, kind: u64) -> Came {
+    let c = h.csrs;
+    let g = regime::control(h.mode, c.mstatus, c.satp, c.menvcfg, c.senvcfg, c.mseccfg);
+    let m = control::effective(g, place::kind(kind));
+    let low = mode::number(m) + counted(control::paged(g, m), 4);
+    let bits = counted(g.sum, 8) + counted(g.mxr, 16) + counted(g.sse, 32);
+    value(low + bits + mask::pmlen(control::pmm(g, m)) * 64, h)
 }
 
 fn run(operation: u64, first: u64, second: u64, h: Hart) -> Came {
@@ -99,13 +114,14 @@ fn run(operation: u64, first: u64, second: u64, h: Hart) -> Came {
         5 => value(0, h.sret()),
         6 => shadow(h),
         7 => swap(h),
-        _ => pad(h),
+        8 => pad(h),
+        _ => regime(h, first),
     }
 }
 
-// Whether the operation is one, an address one that an instruction can have, and ELP a bit.
+// Whether the operation is one, an address one that an instruction can have, a kind of access one, and ELP a bit.
 fn known(n: &[u64; MOST]) -> bool {
-    n[0] <= 8 && (n[0] > 1 || n[1] <= 0xfff) && n[37] <= 1
+    n[0] <= 9 && (n[0] < 9 || n[1] <= 5) && (n[0] > 1 || n[1] <= 0xfff) && n[37] <= 1
 }
 
 pub fn judge(c: Counts, s: &[u8], at: Line, numbers: &[u64; MOST]) -> Counts

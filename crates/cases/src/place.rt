@@ -27,7 +27,7 @@ use page::Mode;
 // How many given numbers stand before the words of the map.
 const MAP: usize = 14;
 
-fn kind(n: u64) -> Kind {
+pub fn kind(n: u64) -> Kind {
     match n {
         0 => Kind::Fetch,
         1 => Kind::Load,

@@ -5,7 +5,7 @@ ghost use mathlib.Core.Path.{_≡_};
 ghost use lib.Dec.{eqb};
 ghost use lib.ListN.{getD, length, replicate};
 ghost use lib.Seq.{paste};
-ghost use Rattle.csr.specs.Status.{num};
+ghost use Rattle.status.specs.Status.{num};
 ghost use Rattle.hart.specs.Setters.{startOf};
 ghost use Rattle.cases.specs.State.{Registers, csrsOf, shownOf};
 use hart::Csrs;

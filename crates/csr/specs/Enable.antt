@@ -13,11 +13,11 @@ sseOf envcfg = bitOf envcfg 3
 abbrev pub lpeOf : (envcfg : ℕ) → Bool
 lpeOf envcfg = bitOf envcfg 2
 
--- by the mode: while menvcfg.SSE is 0, senvcfg.SSE acts as 0
-abbrev pub bySse : Mode → (machine menvcfg senvcfg : Bool) → Bool
-bySse Machine machine menvcfg senvcfg = machine
-bySse Supervisor machine menvcfg senvcfg = menvcfg
-bySse User machine menvcfg senvcfg = menvcfg && senvcfg
+-- by the mode, where msse is menvcfg.SSE and ssse the stored senvcfg.SSE: while the one is 0, the other acts as 0
+abbrev pub bySse : Mode → (machine msse ssse : Bool) → Bool
+bySse Machine machine msse ssse = machine
+bySse Supervisor machine msse ssse = msse
+bySse User machine msse ssse = msse && ssse
 
 -- active shadow enable: M 0, S menvcfg.SSE, U senvcfg.SSE
 abbrev pub shadowOf : Mode → (menvcfg senvcfg : ℕ) → Bool

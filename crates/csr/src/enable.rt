@@ -11,17 +11,17 @@ pub fn sse(envcfg: u64) -> bool
 }
 
 // While menvcfg.SSE is 0, senvcfg.SSE acts as 0.
-fn by_sse(m: Mode, machine: bool, menvcfg: bool, senvcfg: bool) -> bool
-    ensures { λ r. ⌜ r ≡ bySse m machine menvcfg senvcfg ⌝ }
+fn by_sse(m: Mode, machine: bool, msse: bool, ssse: bool) -> bool
+    ensures { λ r. ⌜ r ≡ bySse m machine msse ssse ⌝ }
 {
     match m {
         Mode::User => {
-            if menvcfg {
-                return senvcfg;
+            if msse {
+                return ssse;
             }
             false
         }
-        Mode::Supervisor => menvcfg,
+        Mode::Supervisor => msse,
         Mode::Machine => machine,
     }
 }

@@ -1,6 +1,6 @@
 // What a write leaves of each row but mstatus', and what a read shows. By fields and arithmetic, which the checker reads.
+use word::choice;
 ghost use mathlib.Core.Path.{_≡_};
-ghost use mathlib.Core.Bool.{_||_};
 ghost use Prim.Native.Nat.{_<_};
 ghost use Rattle.word.specs.Choice.{pick};
 ghost use Rattle.word.specs.Row.{Only, digit, takesOf, writeOf, readOf};
@@ -31,20 +31,12 @@ pub fn medeleg(v: u64) -> u64
     v % 0x400 + v / 0x1000 % 4 * 0x1000 + v / 0x8000 % 2 * 0x8000 + v / 0x4_0000 % 2 * 0x4_0000
 }
 
-// A field's new value: what is written where the field can hold it, else the old one. Both are below `below`.
-fn taken(ok: bool, v: u64, old: u64, below: u64) -> u64
-    requires { ⌜ (v < below) × (old < below) ⌝ }
-    ensures { λ r. ⌜ (r ≡ pick ok v old) × (r < below) ⌝ }
-{
-    if ok { v } else { old }
-}
-
 // PMM: writing 1 keeps the old PMM.
 fn pmm(old: u64, v: u64) -> u64
     ensures { λ r. ⌜ (r ≡ takesOf (Only 2 isPmm) (digit 32 2 old) (digit 32 2 v)) × (r < 4) ⌝ }
 {
     let new = v / 0x1_0000_0000 % 4;
-    taken(new != 1, new, old / 0x1_0000_0000 % 4, 4)
+    choice::taken(new != 1, new, old / 0x1_0000_0000 % 4, 4)
 }
 
 pub fn envcfg(old: u64, v: u64) -> u64
@@ -76,16 +68,7 @@ pub fn mseccfg(old: u64, v: u64) -> u64
 fn scheme(mode: u64) -> bool
     ensures { λ r. ⌜ r ≡ isScheme mode ⌝ }
 {
-    either(mode == 0, mode == 8)
-}
-
-fn either(a: bool, b: bool) -> bool
-    ensures { λ r. ⌜ r ≡ (a || b) ⌝ }
-{
-    if a {
-        return true;
-    }
-    b
+    choice::either(mode == 0, mode == 8)
 }
 
 // satp: a write with another MODE changes nothing.
@@ -93,7 +76,7 @@ pub fn satp(old: u64, v: u64) -> u64
     ensures { λ r. ⌜ r ≡ writeOf satp old v ⌝ }
 {
     let mode = v / 0x1000_0000_0000_0000 % 16;
-    taken(scheme(mode), mode, old / 0x1000_0000_0000_0000 % 16, 16) * 0x1000_0000_0000_0000
+    choice::taken(scheme(mode), mode, old / 0x1000_0000_0000_0000 % 16, 16) * 0x1000_0000_0000_0000
 }
 
 pub fn envcfg_shown(m: u64) -> u64

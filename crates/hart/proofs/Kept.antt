@@ -1,6 +1,7 @@
--- What a trap and a return keep: every field of the hart that is not theirs, named.
+-- What a trap and a return keep: every field of the hart that is not theirs, named. The fields of mstatus are all of it in a hart
+-- that refusal 1 lets pass (`Rattle.status.proofs.Packed.whole`): UXL, SXL and the unnamed bits are fixed.
 -- Assumes nothing.
-use mathlib.Core.Path.{_≡_, refl, ap}
+use mathlib.Core.Path.{_≡_, refl, ap, _∙_}
 use mathlib.Core.Bool.{Bool, true, false}
 use Prim.Native.Nat.{ℕ}
 use Rattle.word.specs.Choice.{pick}
@@ -126,6 +127,15 @@ module _ (h : Hart) (cause tval : ℕ) where
     mpelp = ap (λ (s : Status). s .mpelp) (enter-s-fields (h .csrs .mstatus) (modeOf (h .mode)) (h .elp));
   }
 
+-- the same of a trap that goes to M, and of one that goes to S
+pub trap-keeps-s : (h : Hart) (cause tval : ℕ) → toS (modeOf (h .mode)) (delegatedOf (h .csrs .medeleg) cause) ≡ false
+    → TrapKeepsS h (trapOf h cause tval)
+trap-keeps-s h cause tval e = rw (to-m h cause tval e) (trap-m-keeps h cause tval)
+
+pub trap-keeps-m : (h : Hart) (cause tval : ℕ) → toS (modeOf (h .mode)) (delegatedOf (h .csrs .medeleg) cause) ≡ true
+    → TrapKeepsM h (trapOf h cause tval)
+trap-keeps-m h cause tval e = rw (to-s h cause tval e) (trap-s-keeps h cause tval)
+
 -- every return keeps the registers, ssp, every CSR but mstatus, and SUM and MXR of it
 pub record ReturnKeeps (h g : Hart) : Type 0 where
   pub x : g .x ≡ h .x
@@ -227,3 +237,9 @@ sret-keeps-m h = record {
   mpp = ap (λ (s : Status). s .mpp) (leave-s-fields (h .csrs .mstatus));
   mpelp = ap (λ (s : Status). s .mpelp) (leave-s-fields (h .csrs .mstatus));
 }
+
+-- and MRET into M keeps MPRV
+pub mret-keeps-mprv : (h : Hart) → statusOf (h .csrs .mstatus) .mpp ≡ 3
+    → statusOf (mretOf h .csrs .mstatus) .mprv ≡ statusOf (h .csrs .mstatus) .mprv
+unfolding mretOf
+mret-keeps-mprv h e = ap (λ (s : Status). s .mprv) (leave-m-fields (h .csrs .mstatus)) ∙ rw e

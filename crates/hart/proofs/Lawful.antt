@@ -13,7 +13,7 @@ use Rattle.word.specs.Choice.{Table, _⇒_¦_, otherwise, pick, look}
 use Rattle.word.proofs.Bools.{both}
 use Rattle.page.specs.declared.Mode.{Mode}
 use Rattle.page.specs.declared.Mode.the-variants.{User, Supervisor, Machine}
-use Rattle.word.specs.Row.{Field, digit, writeOf, legalOf}
+use Rattle.word.specs.Row.{Field, digit, writeOf, legalOf, allSeen}
 use Rattle.status.specs.Fields.{mstatus}
 use Rattle.csr.specs.Row.{eights, fours, word, envcfg, satp, medeleg, mseccfg, rowOf, isView}
 use Rattle.csr.specs.Enable.{sseOf}
@@ -251,19 +251,32 @@ sret-lawful h l = record {
   held = put-held Mstatus (leaveS (h .csrs .mstatus)) (h .ssp) (h .csrs) (leave-s-legal (h .csrs .mstatus) (l .held Mstatus)) (l .held);
 }
 
+-- the same of `legal`, as code tests it
+pub write-legal : (n : Csr) (v : ℕ) (h : Hart) → legal h ≡ true → legal (csrWriteOf n v h) ≡ true
+write-legal n v h e = legal-of (csrWriteOf n v h) (write-lawful n v h (lawful h e))
+
+pub trap-legal : (h : Hart) (cause tval : ℕ) → legal h ≡ true → legal (trapOf h cause tval) ≡ true
+trap-legal h cause tval e = legal-of (trapOf h cause tval) (trap-lawful h cause tval (lawful h e))
+
+pub mret-legal : (h : Hart) → legal h ≡ true → legal (mretOf h) ≡ true
+mret-legal h e = legal-of (mretOf h) (mret-lawful h (lawful h e))
+
+pub sret-legal : (h : Hart) → legal h ≡ true → legal (sretOf h) ≡ true
+sret-legal h e = legal-of (sretOf h) (sret-lawful h (lawful h e))
+
 -- the hart to start from is such a hart, so the laws here speak of something
 pub start-legal : legal startOf ≡ true
 unfolding legal csrsLegal
 start-legal = refl
 
 -- where a write of CSR n reaches every field, a word m that it can hold is left by a write of m
-pub left-by-write : (n : Csr) (h : Hart) (m : ℕ) → isView n ≡ false → sseOf (h .csrs .menvcfg) ≡ true → m < 2 ^ 64 → holds n m ≡ true
+pub left-by-write : (n : Csr) (h : Hart) (m : ℕ) → allSeen (rowOf n (sseOf (h .csrs .menvcfg))) ≡ true → m < 2 ^ 64 → holds n m ≡ true
     → storedOf n (csrWriteOf n m h .ssp) (csrWriteOf n m h .csrs) ≡ m
 unfolding csrWriteOf writtenOf
-left-by-write n h m e s l t =
+left-by-write n h m e l t =
+    let sse : Bool = sseOf (h .csrs .menvcfg) in
     same n n (writtenOf n m (h .ssp) (h .csrs)) (h .ssp) (h .csrs) refl
-    ∙ ap (λ (b : Bool). writeOf (rowOf n b) (storedOf n (h .ssp) (h .csrs)) m) s
-    ∙ kept (rowOf n true) (storedOf n (h .ssp) (h .csrs)) m (all-seen n e) (rw (sixty-four n true) l) t
+    ∙ kept (rowOf n sse) (storedOf n (h .ssp) (h .csrs)) m e (rw (sixty-four n sse) l) (alike n sse m ∙ t)
 
 -- menvcfg.SSE is 1, so that senvcfg.SSE is written too
 unfoldable ready : Hart
@@ -278,6 +291,7 @@ pub record Left (n : Csr) (m : ℕ) : Type 0 where
   pub before : Hart
   pub lets : legal before ≡ true
   pub value : ℕ
+  pub small : value < 2 ^ 64
   pub after : storedOf n (csrWriteOf n value before .ssp) (csrWriteOf n value before .csrs) ≡ m
 
 -- refusal 1: the values that a CSR can hold are exactly those that a write could leave
@@ -287,7 +301,8 @@ can-hold n m e l t = record {
   before = ready;
   lets = legal-of ready (write-lawful Menvcfg 8 startOf (lawful startOf start-legal));
   value = m;
-  after = left-by-write n ready m e ready-sse l t;
+  small = l;
+  after = left-by-write n ready m (rw ready-sse (all-seen n e)) l t;
 }
 
 pub no-other : (n : Csr) (m : ℕ) → Left n m → holds n m ≡ true

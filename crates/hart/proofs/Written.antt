@@ -1,21 +1,25 @@
--- Reading back what was written, for every CSR: a read after a write shows what each field took; another CSR shows what it did.
+-- Reading back what was written, for every CSR: a read after a write shows what each field took; every other word stays as it
+-- was stored. And what U may do to a CSR.
 -- Assumes nothing.
-use mathlib.Core.Path.{_≡_, refl}
-use mathlib.Core.Bool.{Bool, true, false}
+use mathlib.Core.Path.{_≡_, refl, ap, _∙_}
+use mathlib.Core.Bool.{Bool, true, _&&_}
+use mathlib.Core.List.{List}
 use Prim.Native.Nat.{ℕ, _^_, _<_}
 use Rattle.page.specs.declared.Mode.the-variants.{User}
-use Rattle.word.specs.Row.{writeOf, readOf}
-use Rattle.csr.specs.Row.{rowOf, isView}
-use Rattle.csr.specs.Enable.{sseOf}
+use Rattle.word.specs.Choice.{pick}
+use Rattle.word.specs.Row.{Field, writeOf, readOf, allSeen}
+use Rattle.csr.specs.Row.{rowOf}
+use Rattle.csr.specs.Enable.{sseOf, permitsOf}
+use Rattle.status.specs.Mode.{modeOf}
 use Rattle.csr.specs.Reach.{reachOf}
 use Rattle.csr.specs.declared.Csr.{Csr}
 use Rattle.csr.specs.declared.Csr.the-variants.{Ssp, Sstatus, Stvec, Senvcfg, Sscratch, Sepc, Scause, Stval, Satp, Mstatus, Medeleg, Mtvec, Menvcfg, Mscratch, Mepc, Mcause, Mtval, Mseccfg}
-use Rattle.csr.specs.declared.reach.Reached.the-variants.{To}
+use Rattle.csr.specs.declared.reach.Reached.the-variants.{To, Illegal}
 use Rattle.word.proofs.Rows.{backOf, back, shown}
-use Rattle.csr.proofs.Made.{all-fit, all-seen, sixty-four}
+use Rattle.csr.proofs.Made.{all-fit, sixty-four, alike}
 use Rattle.csr.proofs.Users.{user-ssp}
 use Rattle.hart.specs.Setters.{withSsp, storedOf, putOf}
-use Rattle.hart.specs.Access.{shownOf, writtenOf, csrWriteOf}
+use Rattle.hart.specs.Access.{reachedOf, shownOf, writtenOf, csrReadOf, csrWriteOf}
 use Rattle.hart.specs.Legal.{holds}
 use Rattle.hart.specs.declared.Hart.{Hart}
 use Rattle.hart.specs.declared.Csrs.{Csrs}
@@ -45,7 +49,7 @@ row-stays Mseccfg w c = refl
 
 -- a read after a write of v shows what each field took
 pub read-back : (n : Csr) (v : ℕ) (h : Hart)
-    → shownOf n (csrWriteOf n v h .ssp) (csrWriteOf n v h .csrs) ≡ backOf (rowOf n (sseOf (h .csrs .menvcfg))) (storedOf n (h .ssp) (h .csrs)) v
+    → csrReadOf n (csrWriteOf n v h) ≡ backOf (rowOf n (sseOf (h .csrs .menvcfg))) (storedOf n (h .ssp) (h .csrs)) v
 unfolding csrWriteOf writtenOf shownOf
 read-back n v h =
     let sse : Bool = sseOf (h .csrs .menvcfg) in
@@ -53,10 +57,16 @@ read-back n v h =
     let w : ℕ = writeOf (rowOf n sse) old v in
     rw (row-stays n w (h .csrs), same n n w (h .ssp) (h .csrs) refl) (back (rowOf n sse) old v (all-fit n sse))
 
--- a value that the CSR can hold is read back as it was written, where a write reaches every field
-pub same-back : (n : Csr) (v : ℕ) (h : Hart) → isView n ≡ false → sseOf (h .csrs .menvcfg) ≡ true → v < 2 ^ 64 → holds n v ≡ true
-    → readOf (rowOf n true) (storedOf n (csrWriteOf n v h .ssp) (csrWriteOf n v h .csrs)) ≡ v
-same-back n v h e s l t = rw (left-by-write n h v e s l t) (shown (rowOf n true) v (all-seen n e) (rw (sixty-four n true) l) t)
+-- a value that the CSR can hold is read back as it was written, where nothing of the CSR is hidden
+pub same-back : (n : Csr) (v : ℕ) (h : Hart) → allSeen (rowOf n (sseOf (h .csrs .menvcfg))) ≡ true → v < 2 ^ 64 → holds n v ≡ true
+    → csrReadOf n (csrWriteOf n v h) ≡ v
+unfolding csrWriteOf shownOf
+same-back n v h e l t =
+    let sse : Bool = sseOf (h .csrs .menvcfg) in
+    let w : ℕ = writtenOf n v (h .ssp) (h .csrs) in
+    ap (λ (fs : List Field). readOf fs (storedOf n (csrWriteOf n v h .ssp) (csrWriteOf n v h .csrs))) (row-stays n w (h .csrs))
+    ∙ ap (λ (m : ℕ). readOf (rowOf n sse) m) (left-by-write n h v e l t)
+    ∙ shown (rowOf n sse) v e (rw (sixty-four n sse) l) (alike n sse v ∙ t)
 
 -- a write of one CSR leaves every other word as it was; sstatus and mstatus have one word
 pub others-stay : (k n : Csr) (v : ℕ) (h : Hart) → (slotOf k ≡ slotOf n → ⊥)
@@ -64,8 +74,18 @@ pub others-stay : (k n : Csr) (v : ℕ) (h : Hart) → (slotOf k ≡ slotOf n �
 unfolding csrWriteOf
 others-stay k n v h d = other k n (writtenOf n v (h .ssp) (h .csrs)) (h .ssp) (h .csrs) d
 
--- a CSR write that U may make changes ssp and nothing else
-pub user-write : (permitted : Bool) (address : ℕ) (n : Csr) (v : ℕ) (h : Hart) → reachOf User permitted address ≡ To n
+-- in U no address names a CSR but ssp's
+pub user-reaches : (menvcfg senvcfg address : ℕ) (n : Csr) → reachedOf 0 menvcfg senvcfg address ≡ To n → n ≡ Ssp
+unfolding reachedOf modeOf
+user-reaches menvcfg senvcfg address n e = user-ssp (permitsOf User menvcfg senvcfg) address n e
+
+-- so a CSR write that U may make changes ssp and nothing else
+pub user-write : (menvcfg senvcfg address : ℕ) (n : Csr) (v : ℕ) (h : Hart) → reachedOf 0 menvcfg senvcfg address ≡ To n
     → csrWriteOf n v h ≡ withSsp (writtenOf Ssp v (h .ssp) (h .csrs)) h
 unfolding csrWriteOf
-user-write permitted address n v h e = rw (user-ssp permitted address n e)
+user-write menvcfg senvcfg address n v h e = rw (user-reaches menvcfg senvcfg address n e)
+
+-- and U reaches ssp exactly where both SSE are 1
+pub user-pointer : (menvcfg senvcfg : ℕ) → reachedOf 0 menvcfg senvcfg 0x011 ≡ pick (sseOf menvcfg && sseOf senvcfg) (To Ssp) Illegal
+unfolding reachedOf modeOf reachOf
+user-pointer menvcfg senvcfg = refl

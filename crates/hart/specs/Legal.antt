@@ -32,7 +32,7 @@ csrsLegal c =
 
 -- the mode is 0, 1 or 3
 abbrev pub isMode : ℕ → Bool
-isMode m = eqb m 0 || eqb m 1 || eqb m 3
+isMode m = eqb m 0 || (eqb m 1 || eqb m 3)
 
 -- register 0 is 0; pc is a multiple of 4; the mode is 0, 1 or 3; ssp is a multiple of 8; and each CSR holds a value that a
 -- write could leave

@@ -2,8 +2,7 @@
 use mathlib.Core.Bool.{Bool, _&&_}
 use Rattle.page.specs.declared.Mode.{Mode}
 use Rattle.status.specs.Mode.{numberOf}
-use Rattle.word.specs.Row.{bitOf}
-use Rattle.status.specs.Status.{leaveM, leaveS, mppMode, sppMode}
+use Rattle.status.specs.Status.{statusOf, leaveM, leaveS, mppMode, sppMode}
 use Rattle.csr.specs.Enable.{padOf}
 use Rattle.hart.specs.Setters.{withPc, withMode, withElp, withCsrs, withMstatus}
 use Rattle.hart.specs.declared.Hart.{Hart}
@@ -21,10 +20,10 @@ backIn h new saved = withMode (numberOf new) (withElp (elpAfter (h .csrs) new sa
 unfoldable pub mretOf : Hart → Hart
 mretOf h =
     backIn (withCsrs (withMstatus (leaveM (h .csrs .mstatus)) (h .csrs)) (withPc (h .csrs .mepc) h)) (mppMode (h .csrs .mstatus))
-    (bitOf (h .csrs .mstatus) 41)
+    (statusOf (h .csrs .mstatus) .mpelp)
 
 -- SRET: to SPP at sepc, with SPELP
 unfoldable pub sretOf : Hart → Hart
 sretOf h =
     backIn (withCsrs (withMstatus (leaveS (h .csrs .mstatus)) (h .csrs)) (withPc (h .csrs .sepc) h)) (sppMode (h .csrs .mstatus))
-    (bitOf (h .csrs .mstatus) 23)
+    (statusOf (h .csrs .mstatus) .spelp)

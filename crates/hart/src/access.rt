@@ -1,12 +1,23 @@
-// Reading and writing a CSR of the hart. Which CSR an address names and who may touch it: `csr::reach`.
+// Which CSR of the hart an address names, and reading and writing it.
 use super::Csrs;
 use super::Hart;
 use super::setters;
 use csr::Csr;
 use csr::access;
 use csr::enable;
+use csr::reach;
+use csr::reach::Reached;
+use status::mode;
 ghost use mathlib.Core.Path.{_≡_};
-ghost use Rattle.hart.specs.Access.{shownOf, writtenOf, csrWriteOf};
+ghost use Rattle.hart.specs.Access.{reachedOf, shownOf, writtenOf, csrReadOf, csrWriteOf};
+
+// The CSR that an address names, or illegal, in a mode with these menvcfg and senvcfg.
+pub fn reached(mode: u64, menvcfg: u64, senvcfg: u64, address: u16) -> Reached
+    ensures { λ r. ⌜ r ≡ reachedOf mode menvcfg senvcfg address ⌝ }
+{
+    let m = mode::mode(mode);
+    reach::reach(m, enable::permits(m, menvcfg, senvcfg), address)
+}
 
 impl Csrs {
     // What a read of CSR n shows.
@@ -25,6 +36,14 @@ impl Csrs {
 }
 
 impl Hart {
+    // What a read of CSR n shows.
+    pub fn csr_read(self, n: Csr) -> u64
+        ensures { λ r. ⌜ r ≡ csrReadOf n self ⌝ }
+    {
+        let c = self.csrs;
+        c.shown(n, self.ssp)
+    }
+
     // The hart after a write of v to CSR n.
     pub fn csr_write(mut self, n: Csr, v: u64) -> Hart
         ensures { λ r. ⌜ r ≡ csrWriteOf n v self ⌝ }

@@ -2,6 +2,7 @@
 use super::Csrs;
 use super::Hart;
 use csr::legal;
+use word::choice;
 ghost use mathlib.Core.Path.{_≡_};
 ghost use mathlib.Core.Bool.{_&&_, _||_};
 ghost use Rattle.hart.specs.Legal.{isMode, machineLegal, csrsLegal, legal};
@@ -24,14 +25,8 @@ fn all(a: bool, b: bool, c: bool, d: bool, e: bool) -> bool
     false
 }
 
-fn both(a: bool, b: bool) -> bool
-    ensures { λ r. ⌜ r ≡ (a && b) ⌝ }
-{
-    if a { b } else { false }
-}
-
 fn any(a: bool, b: bool, c: bool) -> bool
-    ensures { λ r. ⌜ r ≡ (a || b || c) ⌝ }
+    ensures { λ r. ⌜ r ≡ (a || (b || c)) ⌝ }
 {
     if a {
         return true;
@@ -57,7 +52,7 @@ impl Csrs {
             legal::medeleg(self.medeleg),
             legal::fours(self.mtvec),
             legal::envcfg(self.menvcfg),
-            both(legal::fours(self.mepc), legal::mseccfg(self.mseccfg)),
+            choice::both(legal::fours(self.mepc), legal::mseccfg(self.mseccfg)),
         )
     }
 

@@ -1,12 +1,13 @@
-// The regime of the hart's accesses: what translation needs to know of the mode and the CSRs.
+// What the hart's mode and CSRs switch on: the enables, and the regime of its accesses, which translation needs to know.
+// All take numbers, so that a step need not pass its hart.
 use address::control::Control;
 use csr::enable;
 use status::mode;
 use status::returns;
 ghost use mathlib.Core.Path.{_≡_};
-ghost use Rattle.hart.specs.Regime.{controlOf};
+ghost use Rattle.hart.specs.Regime.{controlOf, shadowOn, padOn};
 
-// Takes numbers, so that a step need not pass its hart.
+// The regime of accesses.
 pub fn control(
     mode: u64,
     mstatus: u64,
@@ -29,4 +30,18 @@ pub fn control(
         spmm: (menvcfg / 0x1_0000_0000 % 4) as u8,
         mpmm: (mseccfg / 0x1_0000_0000 % 4) as u8,
     }
+}
+
+// The active shadow enable.
+pub fn shadow(mode: u64, menvcfg: u64, senvcfg: u64) -> bool
+    ensures { λ r. ⌜ r ≡ shadowOn mode menvcfg senvcfg ⌝ }
+{
+    enable::shadow(mode::mode(mode), menvcfg, senvcfg)
+}
+
+// The pad enable.
+pub fn pad(mode: u64, menvcfg: u64, senvcfg: u64, mseccfg: u64) -> bool
+    ensures { λ r. ⌜ r ≡ padOn mode menvcfg senvcfg mseccfg ⌝ }
+{
+    enable::pad(mode::mode(mode), menvcfg, senvcfg, mseccfg)
 }

@@ -5,25 +5,17 @@ use csr::enable;
 use page::Mode;
 use status::mode;
 use status::returns;
+use word::choice;
 ghost use mathlib.Core.Path.{_≡_};
-ghost use mathlib.Core.Bool.{_&&_};
 ghost use Rattle.hart.specs.Return.{elpAfter, backIn, mretOf, sretOf};
-
-fn both(a: bool, b: bool) -> bool
-    ensures { λ r. ⌜ r ≡ (a && b) ⌝ }
-{
-    if a { b } else { false }
-}
 
 impl Csrs {
     // ELP after a return: the saved one if the new mode's pad enable is set, else 0.
     fn elp_after(self, new: Mode, saved: bool) -> bool
         ensures { λ r. ⌜ r ≡ elpAfter self new saved ⌝ }
     {
-        both(
-            enable::pad(new, self.menvcfg, self.senvcfg, self.mseccfg),
-            saved,
-        )
+        let on = enable::pad(new, self.menvcfg, self.senvcfg, self.mseccfg);
+        choice::both(on, saved)
     }
 }
 

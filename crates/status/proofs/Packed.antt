@@ -8,11 +8,11 @@ use lib.Dec.{eqb}
 use Rattle.page.specs.declared.Mode.{Mode}
 use Rattle.page.specs.declared.Mode.the-variants.{User, Supervisor, Machine}
 use Rattle.word.specs.Row.{writeOf, readOf, legalOf}
-use Rattle.status.specs.Fields.{isMode, mstatus, sstatus}
+use Rattle.status.specs.Fields.{isMpp, mstatus, sstatus}
 use Rattle.status.specs.Mode.{numberOf}
 use Rattle.status.specs.Status.{num, statusOf, wordOf, withMpp, mergedOf, throughOf, isSupervisor, trappedM, trappedS, returnedM, returnedS, enterM, enterS, leaveM, leaveS}
 use Rattle.status.specs.declared.Status.{Status}
-use Rattle.word.proofs.Rows.{left, each}
+use Rattle.word.proofs.Rows.{left, each, shown}
 
 parity : (d : ℕ) → d < 2 → num (eqb d 1) ≡ d
 parity zero h = refl
@@ -75,18 +75,18 @@ unpacked s l =
 abbrev pub start : ℕ
 start = 2 * 2 ^ 32 + 2 * 2 ^ 34
 
-merged-same : (r s : Status) → isMode (s .mpp) ≡ true → mergedOf r s ≡ s
+merged-same : (r s : Status) → isMpp (s .mpp) ≡ true → mergedOf r s ≡ s
 merged-same r s ok = rw ok
 
 -- a struct whose MPP is a mode makes a word that mstatus can hold
-pub packed : (s : Status) → s .mpp < 4 → isMode (s .mpp) ≡ true → legalOf mstatus (wordOf s) ≡ true
+pub packed : (s : Status) → s .mpp < 4 → isMpp (s .mpp) ≡ true → legalOf mstatus (wordOf s) ≡ true
 packed s l ok =
     let e : writeOf mstatus start (wordOf s) ≡ wordOf s =
     merges start (wordOf s) ∙ ap (λ (t : Status). wordOf (mergedOf (statusOf start) t)) (unpacked s l) ∙ ap wordOf (merged-same (statusOf start) s ok) in
     rw (e) at (left mstatus start (wordOf s) refl refl)
 
 -- a word that mstatus can hold has a mode in MPP
-pub modes : (m : ℕ) → legalOf mstatus m ≡ true → isMode (statusOf m .mpp) ≡ true
+pub modes : (m : ℕ) → legalOf mstatus m ≡ true → isMpp (statusOf m .mpp) ≡ true
 modes m h = each 10 0 mstatus m h
 
 number-small : (m : Mode) → numberOf m < 4
@@ -94,7 +94,7 @@ number-small User = omega arith
 number-small Supervisor = omega arith
 number-small Machine = omega arith
 
-number-mode : (m : Mode) → isMode (numberOf m) ≡ true
+number-mode : (m : Mode) → isMpp (numberOf m) ≡ true
 number-mode User = refl
 number-mode Supervisor = refl
 number-mode Machine = refl
@@ -134,3 +134,7 @@ leave-m-fields m = unpacked (returnedM (statusOf m)) (omega arith)
 pub leave-s-fields : (m : ℕ) → statusOf (leaveS m) ≡ returnedS (statusOf m)
 unfolding leaveS
 leave-s-fields m = unpacked (returnedS (statusOf m)) (omega arith)
+
+-- a word that mstatus can hold is all in its fields
+pub whole : (m : ℕ) → m < 2 ^ 64 → legalOf mstatus m ≡ true → wordOf (statusOf m) ≡ m
+whole m l h = sym (shows m) ∙ shown mstatus m refl l h

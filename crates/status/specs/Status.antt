@@ -6,7 +6,7 @@ use Rattle.word.specs.Choice.{pick}
 use Rattle.page.specs.declared.Mode.{Mode}
 use Rattle.page.specs.declared.Mode.the-variants.{User, Supervisor, Machine}
 use Rattle.status.specs.Mode.{numberOf, modeOf}
-use Rattle.status.specs.Fields.{isMode}
+use Rattle.status.specs.Fields.{isMpp}
 use Rattle.word.specs.Row.{bitOf}
 use Rattle.status.specs.declared.Status.{Status}
 
@@ -52,7 +52,7 @@ withMpp s mode = record {
 
 -- a write of v to mstatus over old: writing 2 to MPP keeps the old MPP
 abbrev pub mergedOf : (old v : Status) → Status
-mergedOf old v = withMpp v (pick (isMode (v .mpp)) (v .mpp) (old .mpp))
+mergedOf old v = withMpp v (pick (isMpp (v .mpp)) (v .mpp) (old .mpp))
 
 -- a write of v to sstatus over s
 abbrev pub throughOf : (s v : Status) → Status

@@ -1,10 +1,8 @@
 // What a write leaves in mstatus, and what a read shows, also through sstatus.
 use super::Status;
-use super::split;
-use super::word;
+use super::pack;
+use word::choice;
 ghost use mathlib.Core.Path.{_≡_};
-ghost use Prim.Native.Nat.{_<_};
-ghost use Rattle.word.specs.Choice.{pick};
 ghost use Rattle.word.specs.Row.{writeOf, readOf};
 ghost use Rattle.status.specs.Fields.{mstatus, sstatus};
 ghost use Rattle.status.specs.Status.{withMpp, throughOf};
@@ -27,19 +25,15 @@ fn with_mpp(s: Status, mode: u64) -> Status
     }
 }
 
-fn taken(ok: bool, v: u64, old: u64) -> u64
-    requires { ⌜ (v < 4) × (old < 4) ⌝ }
-    ensures { λ r. ⌜ (r ≡ pick ok v old) × (r < 4) ⌝ }
-{
-    if ok { v } else { old }
-}
-
 // What a write of v to mstatus leaves: writing 2 to MPP keeps the old MPP.
 pub fn write(old: u64, v: u64) -> u64
     ensures { λ r. ⌜ r ≡ writeOf mstatus old v ⌝ }
 {
     let mpp = v / 0x800 % 4;
-    word(with_mpp(split(v), taken(mpp != 2, mpp, old / 0x800 % 4)))
+    pack::word(with_mpp(
+        pack::split(v),
+        choice::taken(mpp != 2, mpp, old / 0x800 % 4, 4),
+    ))
 }
 
 fn through(s: Status, v: Status) -> Status
@@ -64,14 +58,14 @@ fn through(s: Status, v: Status) -> Status
 pub fn write_view(old: u64, v: u64) -> u64
     ensures { λ r. ⌜ r ≡ writeOf sstatus old v ⌝ }
 {
-    word(through(split(old), split(v)))
+    pack::word(through(pack::split(old), pack::split(v)))
 }
 
 // What a read of mstatus shows.
 pub fn shown(m: u64) -> u64
     ensures { λ r. ⌜ r ≡ readOf mstatus m ⌝ }
 {
-    word(split(m))
+    pack::word(pack::split(m))
 }
 
 // What a read of sstatus shows: UXL, and no SXL.

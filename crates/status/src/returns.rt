@@ -1,18 +1,11 @@
 // mstatus after a return, and the mode that a return goes to.
 use super::Status;
 use super::mode;
-use super::split;
-use super::word;
+use super::pack;
 use page::Mode;
+use word::choice;
 ghost use mathlib.Core.Path.{_≡_};
-ghost use mathlib.Core.Bool.{_&&_};
 ghost use Rattle.status.specs.Status.{returnedM, returnedS, leaveM, leaveS, mppMode, sppMode};
-
-fn both(a: bool, b: bool) -> bool
-    ensures { λ r. ⌜ r ≡ (a && b) ⌝ }
-{
-    if a { b } else { false }
-}
 
 // MPRV stays only where the new mode is M.
 fn returned_m(s: Status) -> Status
@@ -25,7 +18,7 @@ fn returned_m(s: Status) -> Status
         mpie: true,
         spp: s.spp,
         mpp: 0,
-        mprv: both(s.mpp == 3, s.mprv),
+        mprv: choice::both(s.mpp == 3, s.mprv),
         sum: s.sum,
         mxr: s.mxr,
         spelp: s.spelp,
@@ -55,14 +48,14 @@ fn returned_s(s: Status) -> Status
 pub fn leave_m(m: u64) -> u64
     ensures { λ r. ⌜ r ≡ leaveM m ⌝ }
 {
-    word(returned_m(split(m)))
+    pack::word(returned_m(pack::split(m)))
 }
 
 // mstatus after SRET.
 pub fn leave_s(m: u64) -> u64
     ensures { λ r. ⌜ r ≡ leaveS m ⌝ }
 {
-    word(returned_s(split(m)))
+    pack::word(returned_s(pack::split(m)))
 }
 
 // The mode that MRET goes to.

@@ -1,8 +1,7 @@
 // mstatus after a trap.
 use super::Status;
 use super::mode;
-use super::split;
-use super::word;
+use super::pack;
 use page::Mode;
 ghost use mathlib.Core.Path.{_≡_};
 ghost use Rattle.status.specs.Status.{isSupervisor, trappedM, trappedS, enterM, enterS};
@@ -58,12 +57,12 @@ fn is_supervisor(m: Mode) -> bool
 pub fn enter_m(m: u64, from: Mode, elp: bool) -> u64
     ensures { λ r. ⌜ r ≡ enterM m from elp ⌝ }
 {
-    word(trapped_m(split(m), mode::number(from), elp))
+    pack::word(trapped_m(pack::split(m), mode::number(from), elp))
 }
 
 // mstatus after a trap to S, out of mode `from`.
 pub fn enter_s(m: u64, from: Mode, elp: bool) -> u64
     ensures { λ r. ⌜ r ≡ enterS m from elp ⌝ }
 {
-    word(trapped_s(split(m), is_supervisor(from), elp))
+    pack::word(trapped_s(pack::split(m), is_supervisor(from), elp))
 }

@@ -120,7 +120,7 @@ allFit (f ∷ fs) = fits f && allFit fs
 abbrev pub wellMade : List Field → Bool
 wellMade fs = allFit fs && eqb (bitsOf fs) 64
 
--- nothing is hidden: a write reaches every field
+-- a field that a write reaches and a read shows
 abbrev pub seen : Field → Bool
 seen (Fixed n k) = true
 seen (Covered n k) = false
@@ -128,6 +128,7 @@ seen (Any n) = true
 seen (Only n ok) = true
 seen (Hidden n ok) = false
 
+-- nothing is hidden
 abbrev pub allSeen : List Field → Bool
 allSeen [] = true
 allSeen (f ∷ fs) = seen f && allSeen fs

@@ -7,7 +7,7 @@ use mathlib.Core.Path.{_≡_, _∙_, ap, refl, sym}
 use native.Mathlib.Omega.{arith}
 use lib.ListN.{drop, drop-of-length-le, length, length-append, length-set, replicate, set}
 use lib.Seq.{paste, sets, sets-eq, take-all, take-at}
-use Rattle.csr.specs.Status.{num}
+use Rattle.status.specs.Status.{num}
 use Rattle.cases.specs.State.{afterRegisters}
 use Rattle.cases.specs.declared.state.Came.{Came}
 use Rattle.cases.proofs.state.shown.Statement.{statement}
