@@ -1,3 +1,4 @@
 pub mod Row
 pub mod Enable
+pub mod Exception
 pub mod Reach

@@ -2,6 +2,7 @@
 // a read shows, which words a CSR can hold, and what they switch on. mstatus' own rules stand in crate `status`.
 pub mod access;
 pub mod enable;
+pub mod exception;
 pub mod legal;
 pub mod reach;
 mod row;
