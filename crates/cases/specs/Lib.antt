@@ -1,2 +1,3 @@
+pub mod Kinds
 pub mod Shown
 pub mod State

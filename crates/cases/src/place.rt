@@ -6,6 +6,7 @@
 // mseccfg, the address, the length of memory, and the words of the map. The wanted ones are 0, the
 // physical address and 0, or 1, the cause and tval.
 ghost use mathlib.Core.Path.{_≡_};
+ghost use Rattle.cases.specs.Kinds.{kindOf};
 ghost use Prim.Native.Nat.{_≤_, _^_};
 ghost use Rattle.lines.specs.Counted.{oneMore};
 ghost use Rattle.lines.specs.Most.{most};
@@ -27,7 +28,10 @@ use page::Mode;
 // How many given numbers stand before the words of the map.
 const MAP: usize = 14;
 
-pub fn kind(n: u64) -> Kind {
+// The kind of access that a number stands for.
+pub fn kind(n: u64) -> Kind
+    ensures { λ r. ⌜ r ≡ kindOf n ⌝ }
+{
     match n {
         0 => Kind::Fetch,
         1 => Kind::Load,
