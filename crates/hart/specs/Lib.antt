@@ -4,3 +4,5 @@ pub mod Legal
 pub mod Regime
 pub mod Trap
 pub mod Return
+pub mod Step
+pub mod Run

@@ -6,7 +6,9 @@ use Rattle.word.specs.Row.{digit}
 use Rattle.address.specs.declared.control.Control.{Control}
 use Rattle.status.specs.Mode.{modeOf}
 use Rattle.status.specs.Status.{statusOf, mppMode}
-use Rattle.csr.specs.Enable.{sseOf, shadowOf, padOf}
+use Rattle.csr.specs.Enable.{sseOf, shadowOf, permitsOf, padOf}
+use Rattle.execute.specs.declared.Setting.{Setting}
+use Rattle.hart.specs.declared.Csrs.{Csrs}
 
 -- PMM 33:32 of menvcfg, senvcfg or mseccfg
 abbrev pub pmmBits : ℕ → ℕ
@@ -34,3 +36,12 @@ shadowOn mode menvcfg senvcfg = shadowOf (modeOf mode) menvcfg senvcfg
 -- the pad enable in a mode
 unfoldable pub padOn : (mode menvcfg senvcfg mseccfg : ℕ) → Bool
 padOn mode menvcfg senvcfg mseccfg = padOf (modeOf mode) menvcfg senvcfg mseccfg
+
+-- what a mode and the CSRs say about an instruction
+unfoldable pub settingOf : (mode : ℕ) → Csrs → Setting
+settingOf mode c = record {
+  control = controlOf mode (c .mstatus) (c .satp) (c .menvcfg) (c .senvcfg) (c .mseccfg);
+  shadow = shadowOn mode (c .menvcfg) (c .senvcfg);
+  permitted = permitsOf (modeOf mode) (c .menvcfg) (c .senvcfg);
+  pad = padOn mode (c .menvcfg) (c .senvcfg) (c .mseccfg);
+}

@@ -4,7 +4,9 @@ pub mod access;
 pub mod legal;
 pub mod regime;
 pub mod returns;
+pub mod run;
 pub mod setters;
+pub mod step;
 pub mod trap;
 
 // Each CSR's stored word; sstatus is a view of mstatus, and ssp stands in the hart.

@@ -1,11 +1,13 @@
 // What the hart's mode and CSRs switch on: the enables, and the regime of its accesses, which translation needs to know.
-// All take numbers, so that a step need not pass its hart.
+// All take numbers or the CSRs alone, so that a step need not pass its hart.
+use super::Csrs;
 use address::control::Control;
 use csr::enable;
+use execute::Setting;
 use status::mode;
 use status::returns;
 ghost use mathlib.Core.Path.{_≡_};
-ghost use Rattle.hart.specs.Regime.{controlOf, shadowOn, padOn};
+ghost use Rattle.hart.specs.Regime.{controlOf, shadowOn, padOn, settingOf};
 
 // The regime of accesses.
 pub fn control(
@@ -44,4 +46,25 @@ pub fn pad(mode: u64, menvcfg: u64, senvcfg: u64, mseccfg: u64) -> bool
     ensures { λ r. ⌜ r ≡ padOn mode menvcfg senvcfg mseccfg ⌝ }
 {
     enable::pad(mode::mode(mode), menvcfg, senvcfg, mseccfg)
+}
+
+impl Csrs {
+    // What a mode and the CSRs say about an instruction.
+    pub fn setting(self, mode: u64) -> Setting
+        ensures { λ r. ⌜ r ≡ settingOf mode self ⌝ }
+    {
+        Setting {
+            control: control(
+                mode,
+                self.mstatus,
+                self.satp,
+                self.menvcfg,
+                self.senvcfg,
+                self.mseccfg,
+            ),
+            shadow: shadow(mode, self.menvcfg, self.senvcfg),
+            permitted: enable::permits(mode::mode(mode), self.menvcfg, self.senvcfg),
+            pad: pad(mode, self.menvcfg, self.senvcfg, self.mseccfg),
+        }
+    }
 }

@@ -1,0 +1,15 @@
+use borrow.Author.Needs.{needs}
+use Rattle.execute.proofs.jump.branch.Statement.{statement}
+use Rattle.execute.proofs.jump.branch.Tie as tie
+
+gone-requires : tie.Need-gone-requires
+gone-requires c κs = search needs
+
+returns : tie.Need-returns
+returns c = ?
+
+returns-2 : tie.Need-returns-2
+returns-2 c = ?
+
+pub branch-spec : {M : Type 1} → statement M
+branch-spec = tie.close (tie.spec gone-requires returns returns-2)

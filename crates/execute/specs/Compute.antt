@@ -1,0 +1,47 @@
+-- What OP, OP-IMM and their word forms compute from two numbers, and when a branch is taken.
+use mathlib.Core.Bool.{Bool, true, false, not}
+use Prim.Native.Nat.{ℕ}
+use lib.Bits.{bitAnd, bitOr, bitXor}
+use lib.Dec.{eqb, ltb}
+use Rattle.isa.specs.declared.Condition.{Condition}
+use Rattle.isa.specs.declared.Condition.the-variants.{Equal, NotEqual, Less, NotLess, LessUnsigned, NotLessUnsigned}
+use Rattle.isa.specs.declared.Operation.{Operation}
+use Rattle.isa.specs.declared.Operation.the-variants.{Add, Sub, Sll, Slt, Sltu, Xor, Srl, Sra, Or, And}
+use Rattle.isa.specs.declared.WordOperation.{WordOperation}
+use Rattle.isa.specs.declared.WordOperation.the-variants.{Addw, Subw, Sllw, Srlw, Sraw}
+use Rattle.word.specs.Order.{signedLessOf}
+use Rattle.word.specs.Shift.{leftOf, rightOf, arithmeticOf, leftWordOf, rightWordOf, arithmeticWordOf}
+use Rattle.word.specs.Sum.{sumOf, differenceOf, sumWordOf, differenceWordOf}
+
+-- 1 where a test holds, else 0
+abbrev pub oneOf : Bool → ℕ
+oneOf true = 1
+oneOf false = 0
+
+abbrev pub operationOf : Operation → (a b : ℕ) → ℕ
+operationOf Add a b = sumOf a b
+operationOf Sub a b = differenceOf a b
+operationOf Sll a b = leftOf a b
+operationOf Slt a b = oneOf (signedLessOf a b)
+operationOf Sltu a b = oneOf (ltb a b)
+operationOf Xor a b = bitXor a b
+operationOf Srl a b = rightOf a b
+operationOf Sra a b = arithmeticOf a b
+operationOf Or a b = bitOr a b
+operationOf And a b = bitAnd a b
+
+abbrev pub wordOperationOf : WordOperation → (a b : ℕ) → ℕ
+wordOperationOf Addw a b = sumWordOf a b
+wordOperationOf Subw a b = differenceWordOf a b
+wordOperationOf Sllw a b = leftWordOf a b
+wordOperationOf Srlw a b = rightWordOf a b
+wordOperationOf Sraw a b = arithmeticWordOf a b
+
+-- BEQ, BNE, BLT, BGE, BLTU, BGEU
+abbrev pub conditionOf : Condition → (a b : ℕ) → Bool
+conditionOf Equal a b = eqb a b
+conditionOf NotEqual a b = not (eqb a b)
+conditionOf Less a b = signedLessOf a b
+conditionOf NotLess a b = not (signedLessOf a b)
+conditionOf LessUnsigned a b = ltb a b
+conditionOf NotLessUnsigned a b = not (ltb a b)

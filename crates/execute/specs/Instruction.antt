@@ -1,0 +1,52 @@
+-- One instruction's effect: what RV64I, ECALL, EBREAK, the CSR instructions, MRET, SRET, Zimop, Zicfiss and Zicfilp do, from
+-- the registers x, pc, ssp, what the hart's mode and CSRs say (s), memory m and the map.
+use mathlib.Core.Bool.{Bool}
+use mathlib.Core.List.{List}
+use Prim.Native.Nat.{ℕ}
+use Rattle.word.specs.Choice.{pick}
+use Rattle.word.specs.Sum.{sumOf}
+use Rattle.isa.specs.declared.Instruction.{Instruction}
+use Rattle.isa.specs.declared.Instruction.the-variants.{Illegal, Lui, Auipc, Jal, Jalr, Branch, Memory, OpImm, OpImm32, Op, Op32, Fence, Ecall, Ebreak, Sret, Mret, Csr, ReadSsp, MopR, MopRr}
+use Rattle.csr.specs.Exception.{illegalOf, breakpointOf, callOf}
+use Rattle.execute.specs.Access.{accessOf}
+use Rattle.execute.specs.Compute.{operationOf, wordOperationOf, conditionOf}
+use Rattle.execute.specs.Csrs.{csrOf}
+use Rattle.execute.specs.Jump.{goneOf, jalrOf, branchOf}
+use Rattle.execute.specs.Register.{regOf}
+use Rattle.execute.specs.System.{trapWith, mretOf, sretOf}
+use Rattle.execute.specs.declared.Setting.{Setting}
+use Rattle.execute.specs.declared.Effect.{Effect}
+use Rattle.execute.specs.declared.Effect.the-variants.{Write}
+
+-- the instruction after this one
+abbrev pub nextOf : (pc : ℕ) → ℕ
+nextOf pc = sumOf pc 4
+
+-- a read of ssp, by the active shadow enable; off, the Zimop words write 0
+abbrev pub shownOf : (on : Bool) → (ssp : ℕ) → ℕ
+shownOf on ssp = pick on ssp 0
+
+unfoldable pub executeOf : Instruction → (word : ℕ) → (x : List ℕ) → (pc ssp : ℕ) → Setting → (m map : List ℕ) → Effect
+executeOf Illegal word x pc ssp s m map = trapWith (illegalOf word)
+executeOf (Lui rd v) word x pc ssp s m map = Write rd v (nextOf pc)
+executeOf (Auipc rd v) word x pc ssp s m map = Write rd (sumOf pc v) (nextOf pc)
+executeOf (Jal rd off) word x pc ssp s m map = goneOf rd (nextOf pc) (sumOf pc off)
+executeOf (Jalr rd rs1 off) word x pc ssp s m map = jalrOf rd rs1 (nextOf pc) (sumOf (regOf x rs1) off) (s .pad)
+executeOf (Branch k rs1 rs2 off) word x pc ssp s m map =
+    branchOf (conditionOf k (regOf x rs1) (regOf x rs2)) (nextOf pc) (sumOf pc off)
+executeOf (Memory k rd rs1 rs2 off) word x pc ssp s m map =
+    accessOf k word rd (regOf x rs1) (regOf x rs2) off ssp (nextOf pc) s m map
+executeOf (OpImm o rd rs1 v) word x pc ssp s m map = Write rd (operationOf o (regOf x rs1) v) (nextOf pc)
+executeOf (OpImm32 o rd rs1 v) word x pc ssp s m map = Write rd (wordOperationOf o (regOf x rs1) v) (nextOf pc)
+executeOf (Op o rd rs1 rs2) word x pc ssp s m map = Write rd (operationOf o (regOf x rs1) (regOf x rs2)) (nextOf pc)
+executeOf (Op32 o rd rs1 rs2) word x pc ssp s m map = Write rd (wordOperationOf o (regOf x rs1) (regOf x rs2)) (nextOf pc)
+executeOf (Fence fm pred succ rs1 rd) word x pc ssp s m map = Write 0 0 (nextOf pc)
+executeOf Ecall word x pc ssp s m map = trapWith (callOf (s .control .mode))
+executeOf Ebreak word x pc ssp s m map = trapWith (breakpointOf pc)
+executeOf Sret word x pc ssp s m map = sretOf (s .control .mode) word
+executeOf Mret word x pc ssp s m map = mretOf (s .control .mode) word
+executeOf (Csr o source rd address) word x pc ssp s m map =
+    csrOf o source rd address word x (nextOf pc) (s .control .mode) (s .permitted)
+executeOf (ReadSsp rd) word x pc ssp s m map = Write rd (shownOf (s .shadow) ssp) (nextOf pc)
+executeOf (MopR n rd rs1) word x pc ssp s m map = Write rd 0 (nextOf pc)
+executeOf (MopRr n rd rs1 rs2) word x pc ssp s m map = Write rd 0 (nextOf pc)

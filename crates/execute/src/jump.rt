@@ -1,0 +1,65 @@
+// JAL, JALR and branches. A target that is no multiple of 4 is an exception of the jump, and then nothing is written.
+use super::Effect;
+use address::cause;
+use page::Kind;
+ghost use mathlib.Core.Path.{_≡_};
+ghost use mathlib.Core.Bool.{_&&_, _||_, not};
+ghost use Rattle.execute.specs.Jump.{isLink, goneOf, jalrOf, branchOf};
+
+// JAL: rd takes the link. Also a branch that is taken, whose rd is 0.
+pub fn gone(rd: u8, link: u64, target: u64) -> Effect
+    ensures { λ r. ⌜ r ≡ goneOf rd link target ⌝ }
+{
+    if target % 4 == 0 {
+        return Effect::Write(rd, link, target);
+    }
+    Effect::Trap(cause::misaligned(Kind::Fetch), target)
+}
+
+// A register through which a return or a software-guarded jump goes.
+fn is_link(rs1: u8) -> bool
+    ensures { λ r. ⌜ r ≡ isLink rs1 ⌝ }
+{
+    any(rs1 == 1, rs1 == 5, rs1 == 7)
+}
+
+fn any(a: bool, b: bool, c: bool) -> bool
+    ensures { λ r. ⌜ r ≡ (a || (b || c)) ⌝ }
+{
+    if a {
+        return true;
+    }
+    if b {
+        return true;
+    }
+    c
+}
+
+// JALR, of which rs1 is the register's number: to `target` with its bit 0 cleared.
+pub fn jalr(rd: u8, rs1: u8, link: u64, target: u64, pad: bool) -> Effect
+    ensures { λ r. ⌜ r ≡ jalrOf rd rs1 link target pad ⌝ }
+{
+    let to = target - target % 2;
+    if to % 4 == 0 {
+        return Effect::Jump(rd, link, to, expected(pad, is_link(rs1)));
+    }
+    Effect::Trap(cause::misaligned(Kind::Fetch), to)
+}
+
+fn expected(pad: bool, link: bool) -> bool
+    ensures { λ r. ⌜ r ≡ (pad && not link) ⌝ }
+{
+    if pad {
+        return !link;
+    }
+    false
+}
+
+pub fn branch(taken: bool, next: u64, target: u64) -> Effect
+    ensures { λ r. ⌜ r ≡ branchOf taken next target ⌝ }
+{
+    if taken {
+        return gone(0, 0, target);
+    }
+    Effect::Write(0, 0, next)
+}

@@ -1,0 +1,102 @@
+// A step's effect, in document 01's order: fetch faults, then the landing pad check, then decoding, then the instruction.
+use super::Effect;
+use super::Setting;
+use super::Source;
+use super::instruction;
+use super::register::reg;
+use address::Virtual;
+use address::control::Control;
+use address::place;
+use address::place::Place;
+use isa::Width;
+use page::Kind;
+use word::choice;
+use word::sum;
+ghost use mathlib.Core.Path.{_≡_};
+ghost use mathlib.Core.Bool.{_&&_, _||_};
+ghost use Prim.Native.Nat.{_^_, _≤_};
+ghost use lib.ListN.{length};
+ghost use Rattle.execute.specs.Plan.{fetchedOf, isPad, landedOf, effectOf};
+
+// A word, or why there is none: cause and tval.
+pub enum Fetched {
+    Word(u32),
+    Fault(u64, u64),
+}
+
+fn fetch(source: Source, c: Control, pc: u64, mem: &[u8], map: &[u64]) -> Fetched
+    requires { ⌜ length (now mem) ≤ 2 ^ 20 ⌝ }
+    ensures { λ r. ⌜ r ≡ fetchedOf source c pc (now (mem .entry)) (now (map .entry)) ⌝ }
+{
+    match source {
+        Source::Given(w) => Fetched::Word(w),
+        Source::Fetch => {
+            let p = place::translate(
+                c,
+                Kind::Fetch,
+                Width::Word,
+                Virtual(pc),
+                map,
+                mem.len() as u64,
+            );
+            match p {
+                Place::At(q) => Fetched::Word(memory::load(mem, q.index(), Width::Word) as u32),
+                Place::Fault(cause, tval) => Fetched::Fault(cause, tval),
+            }
+        }
+    }
+}
+
+// Whether a word is a landing pad for x7: AUIPC with rd x0 whose upper 20 bits are 0 or those of x7.
+fn is_pad(w: u32, x7: u64) -> bool
+    ensures { λ r. ⌜ r ≡ isPad w x7 ⌝ }
+{
+    let label = (w / 4096) as u64;
+    choice::both(
+        w % 4096 == 0b0010111,
+        choice::either(label == 0, label == x7 / 4096 % 0x10_0000),
+    )
+}
+
+// The effect of a word that was fetched or given.
+fn landed(
+    w: u32,
+    x: &[u64; 32],
+    pc: u64,
+    elp: bool,
+    ssp: u64,
+    s: Setting,
+    mem: &[u8],
+    map: &[u64],
+) -> Effect
+    requires { ⌜ length (now mem) ≤ 2 ^ 20 ⌝ }
+    ensures { λ r. ⌜ r ≡ landedOf w (now (x .entry)) pc elp ssp s (now (mem .entry)) (now (map .entry)) ⌝ }
+{
+    if choice::both(elp, s.pad) {
+        if is_pad(w, reg(x, 7)) {
+            return Effect::Pad(sum::sum(pc, 4));
+        }
+        return Effect::Trap(18, 2);
+    }
+    instruction::execute(isa::decode(w), w, x, pc, ssp, s, mem, map)
+}
+
+pub fn plan(
+    source: Source,
+    x: &[u64; 32],
+    pc: u64,
+    elp: bool,
+    ssp: u64,
+    s: Setting,
+    mem: &[u8],
+    map: &[u64],
+) -> Effect
+    requires { ⌜ length (now mem) ≤ 2 ^ 20 ⌝ }
+    ensures { λ r. ⌜ r ≡ effectOf source (now (x .entry)) pc elp ssp s (now (mem .entry)) (now (map .entry)) ⌝ }
+{
+    let c = s.control;
+    match fetch(source, c, pc, mem, map) {
+        Fetched::Word(w) => landed(w, x, pc, elp, ssp, s, mem, map),
+        Fetched::Fault(cause, tval) => Effect::Trap(cause, tval),
+    }
+}

@@ -1,0 +1,116 @@
+// A run: steps up to and including the first that traps, or until the budget is spent.
+//
+// The loop keeps one hart and changes it in place, since each copy of the registers costs more than an instruction; and it is
+// the one place that asks for an effect, so that all of a step is compiled into it. The language has no `&mut` of a struct, so
+// the arms that change the hart stand in the loop.
+use super::Csrs;
+use super::Hart;
+use execute::Effect;
+use execute::Source;
+use execute::plan;
+use execute::register;
+use isa::Width;
+ghost use mathlib.Core.Path.{_≡_};
+ghost use Prim.Native.Nat.{_^_, _≤_};
+ghost use lib.ListN.{length};
+ghost use Rattle.execute.specs.Effect.{Stays};
+ghost use Rattle.hart.specs.Step.{memoryOf};
+ghost use Rattle.hart.specs.Run.{runFrom, ranOf};
+
+// What a run hands back: the steps taken, the trapping one included, and the last trap's cause if there was one (else 0).
+pub struct Ran {
+    pub hart: Hart,
+    pub count: u64,
+    pub trapped: bool,
+    pub cause: u64,
+}
+
+// Memory after an effect.
+fn commit(mem: &mut [u8], e: Effect)
+    requires { ⌜ Stays e (length (now mem)) ⌝ }
+    ensures { λ _. ⌜ now (mem .exit) ≡ memoryOf e (now (mem .entry)) ⌝ }
+{
+    match e {
+        Effect::Write(_, _, _) => {}
+        Effect::Jump(_, _, _, _) => {}
+        Effect::Pad(_) => {}
+        Effect::Store(q, w, v, _) => memory::store(mem, q.index(), w, v),
+        Effect::Push(q, v, _, _) => memory::store(mem, q.index(), Width::Double, v),
+        Effect::Pop(_, _) => {}
+        Effect::Swap(_, _, q, w, v, _) => memory::store(mem, q.index(), w, v),
+        Effect::Whole(_) => {}
+        Effect::Trap(_, _) => {}
+    }
+}
+
+// The first step takes its word from `source`, the others fetch.
+pub fn run(h: Hart, source: Source, mem: &mut [u8], map: &[u64], budget: u64) -> Ran
+    requires { ⌜ length (now mem) ≤ 2 ^ 20 ⌝ }
+    ensures answer { λ r. ⌜ r ≡ ranOf (runFrom source budget h (now (mem .entry)) (now (map .entry))) ⌝ }
+    ensures memory { λ r. ⌜ now (mem .exit) ≡ runFrom source budget h (now (mem .entry)) (now (map .entry)) .memory ⌝ }
+{
+    let mut g = h;
+    let mut from = source;
+    let mut left = budget;
+    let c = g.csrs;
+    let mut s = c.setting(g.mode);
+    while 0 < left {
+        let pc = g.pc;
+        let elp = g.elp;
+        let ssp = g.ssp;
+        let e = plan::plan(from, &g.x, pc, elp, ssp, s, mem, map);
+        commit(mem, e);
+        from = Source::Fetch;
+        left = left - 1;
+        match e {
+            Effect::Write(rd, v, next) => {
+                register::put(&mut g.x, rd, v);
+                g.pc = next;
+            }
+            Effect::Jump(rd, v, next, pad) => {
+                register::put(&mut g.x, rd, v);
+                g.pc = next;
+                g.elp = pad;
+            }
+            Effect::Pad(next) => {
+                g.pc = next;
+                g.elp = false;
+            }
+            Effect::Store(_, _, _, next) => {
+                g.pc = next;
+            }
+            Effect::Push(_, _, top, next) => {
+                g.ssp = top;
+                g.pc = next;
+            }
+            Effect::Pop(top, next) => {
+                g.ssp = top;
+                g.pc = next;
+            }
+            Effect::Swap(rd, v, _, _, _, next) => {
+                register::put(&mut g.x, rd, v);
+                g.pc = next;
+            }
+            Effect::Whole(k) => {
+                g = g.whole(k);
+                let d = g.csrs;
+                s = d.setting(g.mode);
+            }
+            Effect::Trap(cause, tval) => {
+                g = g.trap(cause, tval);
+                return Ran {
+                    hart: g,
+                    count: budget - left,
+                    trapped: true,
+                    cause,
+                };
+            }
+        }
+    }
+    Ran {
+        hart: g,
+        count: budget,
+        trapped: false,
+        cause: 0,
+    }
+}
