@@ -40,7 +40,7 @@ fn fetch(source: Source, c: Control, pc: u64, mem: &[u8], map: &[u64]) -> Fetche
                 mem.len() as u64,
             );
             match p {
-                Place::At(q) => Fetched::Word(memory::load(mem, q.index(), Width::Word) as u32),
+                Place::At(q) => Fetched::Word(memory::word(mem, q.index())),
                 Place::Fault(cause, tval) => Fetched::Fault(cause, tval),
             }
         }

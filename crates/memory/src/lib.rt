@@ -24,6 +24,14 @@ pub fn load(mem: &[u8], at: usize, w: Width) -> u64
     bytes::read(mem, at, size::bytes(w) as usize)
 }
 
+// The four bytes of an instruction word.
+pub fn word(mem: &[u8], at: usize) -> u32
+    requires { ⌜ at + 4 ≤ length (now mem) ⌝ }
+    ensures { λ r. ⌜ r ≡ loadOf (now (mem .entry)) at 4 ⌝ }
+{
+    bytes::read(mem, at, 4) as u32
+}
+
 // A loaded number, its sign copied to the bits above.
 fn signed(w: Width, v: u64) -> u64
     ensures { λ r. ⌜ r ≡ signExtended w v ⌝ }

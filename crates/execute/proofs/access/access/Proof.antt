@@ -1,3 +1,6 @@
+use mathlib.Core.Path.{sym, _∙_}
+use Rattle.address.proofs.Reach.{place-within}
+use Rattle.execute.specs.Access.{accessOf, passedOf}
 use borrow.Author.Needs.{needs}
 use Rattle.execute.proofs.access.access.Statement.{statement}
 use Rattle.execute.proofs.access.access.Tie as tie
@@ -24,7 +27,7 @@ translate-requires : tie.Need-translate-requires
 translate-requires c κs = search needs
 
 at-requires : tie.Need-at-requires
-at-requires c κs = ?
+at-requires c κs = λ q e. rw (← c .before .width .ensures) (place-within _ _ _ _ _ _ q (sym (c .translate .ensures) ∙ e))
 
 enum-told-2 : tie.Need-enum-told-2
 enum-told-2 c = search needs
@@ -36,13 +39,16 @@ illegal-requires : tie.Need-illegal-requires
 illegal-requires c κs = search needs
 
 returns : tie.Need-returns
-returns c = ?
+unfolding accessOf passedOf
+returns c = let t = c .before in let w = t .before in let k = w .before in let a = k .before in let s = a .before in let m = s .before .before in rw (c .at .ensures, t .translate .ensures, w .width .ensures, k .kind .ensures, a .address .ensures, s .sum .ensures, sym (m .before .before .gate-of .ensures) ∙ m .enum-told .given .1)
 
 returns-2 : tie.Need-returns-2
-returns-2 c = ?
+unfolding accessOf passedOf
+returns-2 c = rw (sym (c .before .before .gate-of .ensures) ∙ c .enum-told2 .given .1)
 
 returns-3 : tie.Need-returns-3
-returns-3 c = ?
+unfolding accessOf passedOf
+returns-3 c = rw (c .illegal .ensures, sym (c .before .before .before .gate-of .ensures) ∙ c .before .enum-told3 .given .1)
 
 pub access-spec : {M : Type 1} → statement M
 access-spec =

@@ -27,7 +27,7 @@ returns-2 : tie.Need-returns-2
 returns-2 c = search needs
 
 returns-3 : tie.Need-returns-3
-returns-3 c = ?
+returns-3 c = rw (c .push .ensures, c .before .enum-told3 .given .1)
 
 returns-4 : tie.Need-returns-4
 returns-4 c = search needs

@@ -33,22 +33,22 @@ unsigned-less-requires-2 : tie.Need-unsigned-less-requires-2
 unsigned-less-requires-2 c κs = search needs
 
 returns : tie.Need-returns
-returns c = ?
+returns c = rw (c .enum-told .given .1)
 
 returns-2 : tie.Need-returns-2
-returns-2 c = ?
+returns-2 c = rw (c .enum-told2 .given .1)
 
 returns-3 : tie.Need-returns-3
-returns-3 c = ?
+returns-3 c = rw (c .signed-less .ensures, c .before .enum-told3 .given .1)
 
 returns-4 : tie.Need-returns-4
-returns-4 c = ?
+returns-4 c = rw (c .signed-less2 .ensures, c .before .enum-told4 .given .1)
 
 returns-5 : tie.Need-returns-5
-returns-5 c = ?
+returns-5 c = rw (c .unsigned-less .ensures, c .before .enum-told5 .given .1)
 
 returns-6 : tie.Need-returns-6
-returns-6 c = ?
+returns-6 c = rw (c .unsigned-less2 .ensures, c .before .enum-told6 .given .1)
 
 pub condition-spec : {M : Type 1} → statement M
 condition-spec =

@@ -69,34 +69,34 @@ and-requires : tie.Need-and-requires
 and-requires c κs = search needs
 
 returns : tie.Need-returns
-returns c = ?
+returns c = rw (c .sum .ensures, c .before .enum-told .given .1)
 
 returns-2 : tie.Need-returns-2
-returns-2 c = ?
+returns-2 c = rw (c .difference .ensures, c .before .enum-told2 .given .1)
 
 returns-3 : tie.Need-returns-3
-returns-3 c = ?
+returns-3 c = rw (c .left .ensures, c .before .enum-told3 .given .1)
 
 returns-4 : tie.Need-returns-4
-returns-4 c = ?
+returns-4 c = rw (c .one .ensures, c .before .signed-less .ensures, c .before .before .enum-told4 .given .1)
 
 returns-5 : tie.Need-returns-5
-returns-5 c = ?
+returns-5 c = rw (c .one2 .ensures, c .before .unsigned-less .ensures, c .before .before .enum-told5 .given .1)
 
 returns-6 : tie.Need-returns-6
-returns-6 c = ?
+returns-6 c = rw (c .xor .ensures, c .before .enum-told6 .given .1)
 
 returns-7 : tie.Need-returns-7
-returns-7 c = ?
+returns-7 c = rw (c .right .ensures, c .before .enum-told7 .given .1)
 
 returns-8 : tie.Need-returns-8
-returns-8 c = ?
+returns-8 c = rw (c .arithmetic .ensures, c .before .enum-told8 .given .1)
 
 returns-9 : tie.Need-returns-9
-returns-9 c = ?
+returns-9 c = rw (c .or .ensures, c .before .enum-told9 .given .1)
 
 returns-10 : tie.Need-returns-10
-returns-10 c = ?
+returns-10 c = rw (c .and .ensures, c .before .enum-told10 .given .1)
 
 pub operation-spec : {M : Type 1} → statement M
 operation-spec =

@@ -33,19 +33,19 @@ arithmetic-word-requires : tie.Need-arithmetic-word-requires
 arithmetic-word-requires c κs = search needs
 
 returns : tie.Need-returns
-returns c = ?
+returns c = rw (c .sum-word .ensures, c .before .enum-told .given .1)
 
 returns-2 : tie.Need-returns-2
-returns-2 c = ?
+returns-2 c = rw (c .difference-word .ensures, c .before .enum-told2 .given .1)
 
 returns-3 : tie.Need-returns-3
-returns-3 c = ?
+returns-3 c = rw (c .left-word .ensures, c .before .enum-told3 .given .1)
 
 returns-4 : tie.Need-returns-4
-returns-4 c = ?
+returns-4 c = rw (c .right-word .ensures, c .before .enum-told4 .given .1)
 
 returns-5 : tie.Need-returns-5
-returns-5 c = ?
+returns-5 c = rw (c .arithmetic-word .ensures, c .before .enum-told5 .given .1)
 
 pub word-operation-spec : {M : Type 1} → statement M
 word-operation-spec =

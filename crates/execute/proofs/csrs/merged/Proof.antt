@@ -24,10 +24,10 @@ returns : tie.Need-returns
 returns c = search needs
 
 returns-2 : tie.Need-returns-2
-returns-2 c = ?
+returns-2 c = rw (c .or .ensures, c .before .enum-told2 .given .1)
 
 returns-3 : tie.Need-returns-3
-returns-3 c = ?
+returns-3 c = rw (c .and .ensures, c .before .enum-told3 .given .1)
 
 pub merged-spec : {M : Type 1} → statement M
 merged-spec =

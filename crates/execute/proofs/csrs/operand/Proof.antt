@@ -15,7 +15,7 @@ cast-result : tie.Need-cast-result
 cast-result c = search needs
 
 returns : tie.Need-returns
-returns c = ?
+returns c = rw (c .reg .ensures, c .before .before .source .given .1)
 
 returns-2 : tie.Need-returns-2
 returns-2 c = search needs

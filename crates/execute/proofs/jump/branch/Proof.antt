@@ -1,3 +1,4 @@
+use Rattle.execute.specs.Jump.{branchOf}
 use borrow.Author.Needs.{needs}
 use Rattle.execute.proofs.jump.branch.Statement.{statement}
 use Rattle.execute.proofs.jump.branch.Tie as tie
@@ -6,10 +7,12 @@ gone-requires : tie.Need-gone-requires
 gone-requires c κs = search needs
 
 returns : tie.Need-returns
-returns c = ?
+unfolding branchOf
+returns c = rw (c .gone .ensures, c .before .if1 .taken)
 
 returns-2 : tie.Need-returns-2
-returns-2 c = ?
+unfolding branchOf
+returns-2 c = rw (c .if1 .left)
 
 pub branch-spec : {M : Type 1} → statement M
 branch-spec = tie.close (tie.spec gone-requires returns returns-2)

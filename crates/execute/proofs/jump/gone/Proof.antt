@@ -1,15 +1,19 @@
+use Rattle.execute.specs.Jump.{goneOf}
+use borrow.Author.Tests.{eq-eqb, ne-eqb}
 use borrow.Author.Needs.{needs}
 use Rattle.execute.proofs.jump.gone.Statement.{statement}
 use Rattle.execute.proofs.jump.gone.Tie as tie
 
 returns : tie.Need-returns
-returns c = ?
+unfolding goneOf
+returns c = rw (eq-eqb _ _ (c .if1 .taken))
 
 misaligned-requires : tie.Need-misaligned-requires
 misaligned-requires c κs = search needs
 
 returns-2 : tie.Need-returns-2
-returns-2 c = ?
+unfolding goneOf
+returns-2 c = rw (c .misaligned .ensures, ne-eqb _ _ (c .before .if1 .left))
 
 pub gone-spec : {M : Type 1} → statement M
 gone-spec = tie.close (tie.spec returns misaligned-requires returns-2)

@@ -1,3 +1,6 @@
+use mathlib.Core.Path.{sym, _∙_}
+use Rattle.address.proofs.Reach.{place-within, place-index}
+use Rattle.execute.specs.Plan.{fetchedOf}
 use borrow.Author.Needs.{needs}
 use Rattle.execute.proofs.plan.fetch.Statement.{statement}
 use Rattle.execute.proofs.plan.fetch.Tie as tie
@@ -15,25 +18,25 @@ enum-known-p : tie.Need-enum-known-p
 enum-known-p c = search needs
 
 index-requires : tie.Need-index-requires
-index-requires c κs = ?
+index-requires c κs = place-within _ _ _ _ _ _ _ (sym (c .before .before .before .translate .ensures) ∙ c .before .p .given .1) .0
 
-load-requires : tie.Need-load-requires
-load-requires c κs = ?
-
-cast-t21 : tie.Need-cast-t21
-cast-t21 c = ?
+word-requires : tie.Need-word-requires
+word-requires c κs = rw (c .index .ensures) (place-index _ _ _ _ _ _ _ (sym (c .before .before .before .before .translate .ensures) ∙ c .before .before .p .given .1))
 
 enum-known-p-2 : tie.Need-enum-known-p-2
 enum-known-p-2 c = search needs
 
 returns : tie.Need-returns
-returns c = ?
+unfolding fetchedOf
+returns c = rw (c .before .source .given .1)
 
 returns-2 : tie.Need-returns-2
-returns-2 c = ?
+unfolding fetchedOf
+returns-2 c = rw (c .word .ensures, c .before .index .ensures, c .before .before .before .before .before .before .enum-told .given .1, sym (c .before .before .before .before .before .translate .ensures) ∙ c .before .before .before .p .given .1)
 
 returns-3 : tie.Need-returns-3
-returns-3 c = ?
+unfolding fetchedOf
+returns-3 c = rw (c .before .before .before .before .enum-told .given .1, sym (c .before .before .before .translate .ensures) ∙ c .before .p2 .given .1)
 
 pub fetch-spec : {M : Type 1} → statement M
 fetch-spec =
@@ -44,8 +47,7 @@ fetch-spec =
     translate-requires
     enum-known-p
     index-requires
-    load-requires
-    cast-t21
+    word-requires
     enum-known-p-2
     returns
     returns-2

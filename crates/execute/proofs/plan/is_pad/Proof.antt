@@ -12,7 +12,7 @@ both-requires : tie.Need-both-requires
 both-requires c κs = search needs
 
 returns : tie.Need-returns
-returns c = ?
+returns c = rw (c .both .ensures, c .before .either .ensures)
 
 pub is-pad-spec : {M : Type 1} → statement M
 is-pad-spec = tie.close (tie.spec cast-label either-requires both-requires returns)

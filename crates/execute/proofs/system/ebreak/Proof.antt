@@ -9,7 +9,7 @@ trap-requires : tie.Need-trap-requires
 trap-requires c κs = search needs
 
 returns : tie.Need-returns
-returns c = ?
+returns c = rw (c .trap .ensures, c .before .breakpoint .ensures)
 
 pub ebreak-spec : {M : Type 1} → statement M
 ebreak-spec = tie.close (tie.spec breakpoint-requires trap-requires returns)

@@ -9,7 +9,7 @@ trap-requires : tie.Need-trap-requires
 trap-requires c κs = search needs
 
 returns : tie.Need-returns
-returns c = ?
+returns c = rw (c .trap .ensures, c .before .call .ensures)
 
 pub ecall-spec : {M : Type 1} → statement M
 ecall-spec = tie.close (tie.spec call-requires trap-requires returns)

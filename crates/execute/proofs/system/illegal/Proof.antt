@@ -9,7 +9,7 @@ trap-requires : tie.Need-trap-requires
 trap-requires c κs = search needs
 
 returns : tie.Need-returns
-returns c = ?
+returns c = rw (c .trap .ensures, c .before .illegal .ensures)
 
 pub illegal-spec : {M : Type 1} → statement M
 illegal-spec = tie.close (tie.spec illegal-requires trap-requires returns)
