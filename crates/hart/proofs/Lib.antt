@@ -2,3 +2,4 @@ pub mod Slots
 pub mod Lawful
 pub mod Written
 pub mod Kept
+pub mod Turns
