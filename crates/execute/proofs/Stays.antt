@@ -3,7 +3,7 @@
 use mathlib.Core.Bool.{Bool, true, false, _&&_}
 use mathlib.Core.List.{List}
 use mathlib.Core.Path.{_≡_, refl}
-use Prim.Native.Nat.{ℕ, _-_, _%_}
+use Prim.Native.Nat.{ℕ, _%_}
 use lib.Dec.{eqb}
 use lib.ListN.{length}
 use native.Mathlib.Omega.{arith}
@@ -20,7 +20,6 @@ use Rattle.isa.specs.declared.Instruction.the-variants.{Illegal, Lui, Auipc, Ja
 use Rattle.page.specs.declared.Mode.{Mode}
 use Rattle.page.specs.declared.Mode.the-variants.{User, Supervisor, Machine}
 use Rattle.address.specs.Access.{kindOf}
-use Rattle.address.specs.Place.{placeOf}
 use Rattle.address.specs.declared.Physical.{Physical}
 use Rattle.address.specs.declared.place.Place.{Place}
 use Rattle.address.specs.declared.place.Place.the-variants.{At, Fault}

@@ -3,7 +3,7 @@
 --
 -- Below, a and b are the values of rs1 and rs2, next is the address of the next instruction, s what the hart's mode and CSRs
 -- say, m memory.
-use mathlib.Core.Bool.{Bool, true, false}
+use mathlib.Core.Bool.{Bool, true}
 use mathlib.Core.List.{List}
 use Prim.Native.Nat.{ℕ, _+_, _-_, _≤_}
 use lib.Dec.{eqb}

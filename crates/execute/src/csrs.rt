@@ -1,5 +1,6 @@
 // The CSR instructions: which CSR, with which operand, and whether it is written.
 use super::Effect;
+use super::Setting;
 use super::Whole;
 use super::register;
 use super::system;
@@ -7,7 +8,6 @@ use csr::reach;
 use csr::reach::Reached;
 use isa::CsrOperation;
 use isa::CsrSource;
-use page::Mode;
 use word::logic;
 ghost use mathlib.Core.Path.{_≡_};
 ghost use Rattle.execute.specs.Csrs.{writesOf, mergedOf, fieldOf, operandOf, csrOf};
@@ -61,12 +61,13 @@ pub fn csr(
     word: u32,
     x: &[u64; 32],
     next: u64,
-    m: Mode,
-    permitted: bool,
+    s: Setting,
 ) -> Effect
-    ensures { λ r. ⌜ r ≡ csrOf o source rd address word (now (x .entry)) next m permitted ⌝ }
+    ensures { λ r. ⌜ r ≡ csrOf o source rd address word (now (x .entry)) next (s .control .mode) (s .permitted) ⌝ }
 {
-    match reach::reach(m, permitted, address) {
+    let c = s.control;
+    let m = c.mode;
+    match reach::reach(m, s.permitted, address) {
         Reached::To(n) => Effect::Whole(Whole::Csr(
             o,
             n,

@@ -7,12 +7,19 @@ use super::csrs;
 use super::jump;
 use super::register::reg;
 use super::system;
+use isa::Condition;
 use isa::Instruction;
+use isa::Operation;
+use isa::WordOperation;
 use word::sum;
 ghost use mathlib.Core.Path.{_≡_};
 ghost use Prim.Native.Nat.{_^_, _≤_};
 ghost use lib.ListN.{length};
+ghost use Rattle.word.specs.Sum.{sumOf};
+ghost use Rattle.execute.specs.Compute.{operationOf, wordOperationOf, conditionOf};
+ghost use Rattle.execute.specs.Jump.{branchOf};
 ghost use Rattle.execute.specs.Instruction.{shownOf, executeOf};
+ghost use Rattle.execute.specs.declared.Effect.the-variants.{Write};
 
 // A read of ssp, by the active shadow enable.
 fn shown(on: bool, ssp: u64) -> u64
@@ -22,6 +29,26 @@ fn shown(on: bool, ssp: u64) -> u64
         return ssp;
     }
     0
+}
+
+// OP and OP-IMM.
+fn op(o: Operation, rd: u8, a: u64, b: u64, next: u64) -> Effect
+    ensures { λ r. ⌜ r ≡ Write rd (operationOf o a b) next ⌝ }
+{
+    Effect::Write(rd, compute::operation(o, a, b), next)
+}
+
+// OP-32 and OP-IMM-32.
+fn op_32(o: WordOperation, rd: u8, a: u64, b: u64, next: u64) -> Effect
+    ensures { λ r. ⌜ r ≡ Write rd (wordOperationOf o a b) next ⌝ }
+{
+    Effect::Write(rd, compute::word_operation(o, a, b), next)
+}
+
+fn branch(k: Condition, a: u64, b: u64, next: u64, pc: u64, off: u64) -> Effect
+    ensures { λ r. ⌜ r ≡ branchOf (conditionOf k a b) next (sumOf pc off) ⌝ }
+{
+    jump::branch(compute::condition(k, a, b), next, sum::sum(pc, off))
 }
 
 pub fn execute(
@@ -45,18 +72,8 @@ pub fn execute(
         Instruction::Lui(rd, v) => Effect::Write(rd, v, next),
         Instruction::Auipc(rd, v) => Effect::Write(rd, sum::sum(pc, v), next),
         Instruction::Jal(rd, off) => jump::gone(rd, next, sum::sum(pc, off)),
-        Instruction::Jalr(rd, rs1, off) => jump::jalr(
-            rd,
-            rs1,
-            next,
-            sum::sum(reg(x, rs1), off),
-            s.pad,
-        ),
-        Instruction::Branch(k, rs1, rs2, off) => jump::branch(
-            compute::condition(k, reg(x, rs1), reg(x, rs2)),
-            next,
-            sum::sum(pc, off),
-        ),
+        Instruction::Jalr(rd, rs1, off) => jump::jalr(rd, rs1, next, reg(x, rs1), off, s.pad),
+        Instruction::Branch(k, rs1, rs2, off) => branch(k, reg(x, rs1), reg(x, rs2), next, pc, off),
         Instruction::Memory(k, rd, rs1, rs2, off) => access::access(
             k,
             word,
@@ -70,42 +87,16 @@ pub fn execute(
             mem,
             map,
         ),
-        Instruction::OpImm(o, rd, rs1, v) => Effect::Write(
-            rd,
-            compute::operation(o, reg(x, rs1), v),
-            next,
-        ),
-        Instruction::OpImm32(o, rd, rs1, v) => Effect::Write(
-            rd,
-            compute::word_operation(o, reg(x, rs1), v),
-            next,
-        ),
-        Instruction::Op(o, rd, rs1, rs2) => Effect::Write(
-            rd,
-            compute::operation(o, reg(x, rs1), reg(x, rs2)),
-            next,
-        ),
-        Instruction::Op32(o, rd, rs1, rs2) => Effect::Write(
-            rd,
-            compute::word_operation(o, reg(x, rs1), reg(x, rs2)),
-            next,
-        ),
+        Instruction::OpImm(o, rd, rs1, v) => op(o, rd, reg(x, rs1), v, next),
+        Instruction::OpImm32(o, rd, rs1, v) => op_32(o, rd, reg(x, rs1), v, next),
+        Instruction::Op(o, rd, rs1, rs2) => op(o, rd, reg(x, rs1), reg(x, rs2), next),
+        Instruction::Op32(o, rd, rs1, rs2) => op_32(o, rd, reg(x, rs1), reg(x, rs2), next),
         Instruction::Fence(_, _, _, _, _) => Effect::Write(0, 0, next),
         Instruction::Ecall => system::ecall(mode),
         Instruction::Ebreak => system::ebreak(pc),
         Instruction::Sret => system::sret(mode, word),
         Instruction::Mret => system::mret(mode, word),
-        Instruction::Csr(o, source, rd, address) => csrs::csr(
-            o,
-            source,
-            rd,
-            address,
-            word,
-            x,
-            next,
-            mode,
-            s.permitted,
-        ),
+        Instruction::Csr(o, source, rd, n) => csrs::csr(o, source, rd, n, word, x, next, s),
         Instruction::ReadSsp(rd) => Effect::Write(rd, shown(s.shadow, ssp), next),
         Instruction::MopR(_, rd, _) => Effect::Write(rd, 0, next),
         Instruction::MopRr(_, rd, _, _) => Effect::Write(rd, 0, next),

@@ -2,9 +2,11 @@
 use super::Effect;
 use address::cause;
 use page::Kind;
+use word::sum;
 ghost use mathlib.Core.Path.{_≡_};
 ghost use mathlib.Core.Bool.{_&&_, _||_, not};
-ghost use Rattle.execute.specs.Jump.{isLink, goneOf, jalrOf, branchOf};
+ghost use Rattle.word.specs.Sum.{sumOf};
+ghost use Rattle.execute.specs.Jump.{evenOf, isLink, goneOf, jalrOf, branchOf};
 
 // JAL: rd takes the link. Also a branch that is taken, whose rd is 0.
 pub fn gone(rd: u8, link: u64, target: u64) -> Effect
@@ -35,15 +37,21 @@ fn any(a: bool, b: bool, c: bool) -> bool
     c
 }
 
-// JALR, of which rs1 is the register's number: to `target` with its bit 0 cleared.
-pub fn jalr(rd: u8, rs1: u8, link: u64, target: u64, pad: bool) -> Effect
-    ensures { λ r. ⌜ r ≡ jalrOf rd rs1 link target pad ⌝ }
+// JALR, of which rs1 is the register's number and a its value: to a with the offset added, and bit 0 cleared.
+pub fn jalr(rd: u8, rs1: u8, link: u64, a: u64, off: u64, pad: bool) -> Effect
+    ensures { λ r. ⌜ r ≡ jalrOf rd rs1 link (sumOf a off) pad ⌝ }
 {
-    let to = target - target % 2;
+    let to = even(sum::sum(a, off));
     if to % 4 == 0 {
         return Effect::Jump(rd, link, to, expected(pad, is_link(rs1)));
     }
     Effect::Trap(cause::misaligned(Kind::Fetch), to)
+}
+
+fn even(target: u64) -> u64
+    ensures { λ r. ⌜ r ≡ evenOf target ⌝ }
+{
+    target - target % 2
 }
 
 fn expected(pad: bool, link: bool) -> bool

@@ -43,6 +43,17 @@ fn commit(mem: &mut [u8], e: Effect)
     }
 }
 
+fn ran(hart: Hart, count: u64, trapped: bool, cause: u64) -> Ran
+    ensures { λ r. ⌜ r ≡ record { hart = hart; count = count; trapped = trapped; cause = cause } ⌝ }
+{
+    Ran {
+        hart,
+        count,
+        trapped,
+        cause,
+    }
+}
+
 // The first step takes its word from `source`, the others fetch.
 pub fn run(h: Hart, source: Source, mem: &mut [u8], map: &[u64], budget: u64) -> Ran
     requires { ⌜ length (now mem) ≤ 2 ^ 20 ⌝ }
@@ -98,19 +109,9 @@ pub fn run(h: Hart, source: Source, mem: &mut [u8], map: &[u64], budget: u64) ->
             }
             Effect::Trap(cause, tval) => {
                 g = g.trap(cause, tval);
-                return Ran {
-                    hart: g,
-                    count: budget - left,
-                    trapped: true,
-                    cause,
-                };
+                return ran(g, budget - left, true, cause);
             }
         }
     }
-    Ran {
-        hart: g,
-        count: budget,
-        trapped: false,
-        cause: 0,
-    }
+    ran(g, budget, false, 0)
 }

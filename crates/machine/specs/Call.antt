@@ -2,7 +2,7 @@
 -- outcome: the answer, and all of memory.
 --
 -- Below, h is the hart, m memory, map the page map.
-use mathlib.Core.Bool.{Bool, true, false, not}
+use mathlib.Core.Bool.{false, not}
 use mathlib.Core.List.{List}
 use Prim.Native.Nat.{ℕ}
 use lib.Dec.{eqb, ltb}

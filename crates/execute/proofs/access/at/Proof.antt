@@ -1,16 +1,8 @@
+-- `execute::access::at` meets its contract: a place, or its fault. Assumes nothing.
 use Rattle.execute.specs.Access.{atOf}
 use borrow.Author.Needs.{needs}
 use Rattle.execute.proofs.access.at.Statement.{statement}
 use Rattle.execute.proofs.access.at.Tie as tie
-
-enum-known-p : tie.Need-enum-known-p
-enum-known-p c = search needs
-
-done-requires : tie.Need-done-requires
-done-requires c κs = c .before .before .before .before .pre _ (c .before .p .given .1)
-
-enum-known-p-2 : tie.Need-enum-known-p-2
-enum-known-p-2 c = search needs
 
 returns : tie.Need-returns
 unfolding atOf
@@ -21,4 +13,4 @@ unfolding atOf
 returns-2 c = rw (c .before .p2 .given .1)
 
 pub at-spec : {M : Type 1} → statement M
-at-spec = tie.close (tie.spec enum-known-p done-requires enum-known-p-2 returns returns-2)
+at-spec = tie.close (tie.spec (λ c. search needs) (λ c κs. c .before .before .before .before .pre _ (c .before .p .given .1)) (λ c. search needs) returns returns-2)

@@ -1,29 +1,9 @@
+-- `execute::csrs::csr` meets its contract: by what the address reaches. Assumes nothing.
 use mathlib.Core.Path.{sym, _∙_}
 use Rattle.execute.specs.Csrs.{csrOf, reachedOf}
 use borrow.Author.Needs.{needs}
 use Rattle.execute.proofs.csrs.csr.Statement.{statement}
 use Rattle.execute.proofs.csrs.csr.Tie as tie
-
-reach-requires : tie.Need-reach-requires
-reach-requires c κs = search needs
-
-enum-known-n : tie.Need-enum-known-n
-enum-known-n c = search needs
-
-field-requires : tie.Need-field-requires
-field-requires c κs = search needs
-
-writes-requires : tie.Need-writes-requires
-writes-requires c κs = search needs
-
-operand-requires : tie.Need-operand-requires
-operand-requires c κs = search needs
-
-enum-told : tie.Need-enum-told
-enum-told c = search needs
-
-illegal-requires : tie.Need-illegal-requires
-illegal-requires c κs = search needs
 
 returns : tie.Need-returns
 unfolding csrOf reachedOf
@@ -37,12 +17,12 @@ pub csr-spec : {M : Type 1} → statement M
 csr-spec =
     tie.close
     (tie.spec
-    reach-requires
-    enum-known-n
-    field-requires
-    writes-requires
-    operand-requires
-    enum-told
-    illegal-requires
+    (λ c κs. search needs)
+    (λ c. search needs)
+    (λ c κs. search needs)
+    (λ c κs. search needs)
+    (λ c κs. search needs)
+    (λ c. search needs)
+    (λ c κs. search needs)
     returns
     returns-2)

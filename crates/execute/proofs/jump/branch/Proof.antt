@@ -1,10 +1,8 @@
+-- `execute::jump::branch` meets its contract: by the test. Assumes nothing.
 use Rattle.execute.specs.Jump.{branchOf}
 use borrow.Author.Needs.{needs}
 use Rattle.execute.proofs.jump.branch.Statement.{statement}
 use Rattle.execute.proofs.jump.branch.Tie as tie
-
-gone-requires : tie.Need-gone-requires
-gone-requires c κs = search needs
 
 returns : tie.Need-returns
 unfolding branchOf
@@ -15,4 +13,4 @@ unfolding branchOf
 returns-2 c = rw (c .if1 .left)
 
 pub branch-spec : {M : Type 1} → statement M
-branch-spec = tie.close (tie.spec gone-requires returns returns-2)
+branch-spec = tie.close (tie.spec (λ c κs. search needs) returns returns-2)

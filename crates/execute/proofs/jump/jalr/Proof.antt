@@ -1,30 +1,26 @@
-use Rattle.execute.specs.Jump.{jalrOf}
+-- `execute::jump::jalr` meets its contract: by the target's alignment. Assumes nothing.
 use borrow.Author.Tests.{eq-eqb, ne-eqb}
+use Rattle.execute.specs.Jump.{jalrOf}
 use borrow.Author.Needs.{needs}
 use Rattle.execute.proofs.jump.jalr.Statement.{statement}
 use Rattle.execute.proofs.jump.jalr.Tie as tie
 
-sub-to : tie.Need-sub-to
-sub-to c = search needs
-
-is-link-requires : tie.Need-is-link-requires
-is-link-requires c κs = search needs
-
-expected-requires : tie.Need-expected-requires
-expected-requires c κs = search needs
-
 returns : tie.Need-returns
 unfolding jalrOf
-returns c = rw (c .expected .ensures, c .before .is-link .ensures, eq-eqb _ _ (c .before .before .if1 .taken))
-
-misaligned-requires : tie.Need-misaligned-requires
-misaligned-requires c κs = search needs
+returns c = rw (c .expected .ensures, c .before .is-link .ensures, ← c .before .before .before .before .sum .ensures, ← c .before .before .before .even .ensures, eq-eqb _ _ (c .before .before .if1 .taken))
 
 returns-2 : tie.Need-returns-2
 unfolding jalrOf
-returns-2 c = rw (c .misaligned .ensures, ne-eqb _ _ (c .before .if1 .left))
+returns-2 c = rw (c .misaligned .ensures, ← c .before .before .before .sum .ensures, ← c .before .before .even .ensures, ne-eqb _ _ (c .before .if1 .left))
 
 pub jalr-spec : {M : Type 1} → statement M
 jalr-spec =
     tie.close
-    (tie.spec sub-to is-link-requires expected-requires returns misaligned-requires returns-2)
+    (tie.spec
+    (λ c κs. search needs)
+    (λ c κs. search needs)
+    (λ c κs. search needs)
+    (λ c κs. search needs)
+    returns
+    (λ c κs. search needs)
+    returns-2)

@@ -1,30 +1,10 @@
+-- `execute::plan::fetch` meets its contract: by the source and the place. Assumes nothing.
 use mathlib.Core.Path.{sym, _∙_}
 use Rattle.address.proofs.Reach.{place-within, place-index}
 use Rattle.execute.specs.Plan.{fetchedOf}
 use borrow.Author.Needs.{needs}
 use Rattle.execute.proofs.plan.fetch.Statement.{statement}
 use Rattle.execute.proofs.plan.fetch.Tie as tie
-
-enum-known-source : tie.Need-enum-known-source
-enum-known-source c = search needs
-
-enum-told : tie.Need-enum-told
-enum-told c = search needs
-
-translate-requires : tie.Need-translate-requires
-translate-requires c κs = search needs
-
-enum-known-p : tie.Need-enum-known-p
-enum-known-p c = search needs
-
-index-requires : tie.Need-index-requires
-index-requires c κs = place-within _ _ _ _ _ _ _ (sym (c .before .before .before .translate .ensures) ∙ c .before .p .given .1) .0
-
-word-requires : tie.Need-word-requires
-word-requires c κs = rw (c .index .ensures) (place-index _ _ _ _ _ _ _ (sym (c .before .before .before .before .translate .ensures) ∙ c .before .before .p .given .1))
-
-enum-known-p-2 : tie.Need-enum-known-p-2
-enum-known-p-2 c = search needs
 
 returns : tie.Need-returns
 unfolding fetchedOf
@@ -42,13 +22,13 @@ pub fetch-spec : {M : Type 1} → statement M
 fetch-spec =
     tie.close
     (tie.spec
-    enum-known-source
-    enum-told
-    translate-requires
-    enum-known-p
-    index-requires
-    word-requires
-    enum-known-p-2
+    (λ c. search needs)
+    (λ c. search needs)
+    (λ c κs. search needs)
+    (λ c. search needs)
+    (λ c κs. place-within _ _ _ _ _ _ _ (sym (c .before .before .before .translate .ensures) ∙ c .before .p .given .1) .0)
+    (λ c κs. rw (c .index .ensures) (place-index _ _ _ _ _ _ _ (sym (c .before .before .before .before .translate .ensures) ∙ c .before .before .p .given .1)))
+    (λ c. search needs)
     returns
     returns-2
     returns-3)

@@ -1,20 +1,9 @@
+-- `execute::plan::plan` meets its contract: the fetch, and then the word. Assumes nothing.
 use mathlib.Core.Path.{sym, _∙_}
 use Rattle.execute.specs.Plan.{effectOf, arrivedOf}
 use borrow.Author.Needs.{needs}
 use Rattle.execute.proofs.plan.plan.Statement.{statement}
 use Rattle.execute.proofs.plan.plan.Tie as tie
-
-fetch-requires : tie.Need-fetch-requires
-fetch-requires c κs = search needs
-
-enum-known-w : tie.Need-enum-known-w
-enum-known-w c = search needs
-
-landed-requires : tie.Need-landed-requires
-landed-requires c κs = search needs
-
-enum-known-cause : tie.Need-enum-known-cause
-enum-known-cause c = search needs
 
 returns : tie.Need-returns
 unfolding effectOf arrivedOf
@@ -27,4 +16,4 @@ returns-2 c = rw (sym (c .before .before .before .fetch .ensures) ∙ c .before 
 pub plan-spec : {M : Type 1} → statement M
 plan-spec =
     tie.close
-    (tie.spec fetch-requires enum-known-w landed-requires enum-known-cause returns returns-2)
+    (tie.spec (λ c κs. search needs) (λ c. search needs) (λ c κs. search needs) (λ c. search needs) returns returns-2)

@@ -1,3 +1,4 @@
+-- `hart::Csrs::setting` meets its contract: field by field. Assumes nothing.
 use Rattle.hart.specs.Regime.{settingOf}
 use borrow.Author.Needs.{needs}
 use Rattle.hart.proofs.Csrs.setting.Statement.{statement}

@@ -1,3 +1,4 @@
+-- `hart::Hart::changed` meets its contract: by whether it writes. Assumes nothing.
 use Rattle.hart.specs.Step.{changedOf}
 use borrow.Author.Needs.{needs}
 use Rattle.hart.proofs.Hart.changed.Statement.{statement}

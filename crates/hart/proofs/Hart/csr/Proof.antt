@@ -1,3 +1,4 @@
+-- `hart::Hart::csr` meets its contract: the read, the write, and then the register. Assumes nothing.
 use Rattle.hart.specs.Step.{csrOf}
 use borrow.Author.Needs.{needs}
 use Rattle.hart.proofs.Hart.csr.Statement.{statement}

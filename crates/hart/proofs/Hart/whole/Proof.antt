@@ -1,3 +1,4 @@
+-- `hart::Hart::whole` meets its contract: a case an arm. Assumes nothing.
 use Rattle.hart.specs.Step.{wholeOf}
 use borrow.Author.Needs.{needs}
 use Rattle.hart.proofs.Hart.whole.Statement.{statement}

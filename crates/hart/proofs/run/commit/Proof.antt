@@ -1,3 +1,4 @@
+-- `hart::run::commit` meets its contract: an effect an arm, its bytes in memory. Assumes nothing.
 use native.Mathlib.Omega.{arith}
 use Rattle.execute.proofs.Reached.{fits}
 use borrow.Author.Needs.{needs}
