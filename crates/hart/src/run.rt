@@ -43,7 +43,7 @@ fn commit(mem: &mut [u8], e: Effect)
     }
 }
 
-fn ran(hart: Hart, count: u64, trapped: bool, cause: u64) -> Ran
+fn report(hart: Hart, count: u64, trapped: bool, cause: u64) -> Ran
     ensures { λ r. ⌜ r ≡ record { hart = hart; count = count; trapped = trapped; cause = cause } ⌝ }
 {
     Ran {
@@ -109,9 +109,9 @@ pub fn run(h: Hart, source: Source, mem: &mut [u8], map: &[u64], budget: u64) ->
             }
             Effect::Trap(cause, tval) => {
                 g = g.trap(cause, tval);
-                return ran(g, budget - left, true, cause);
+                return report(g, budget - left, true, cause);
             }
         }
     }
-    ran(g, budget, false, 0)
+    report(g, budget, false, 0)
 }

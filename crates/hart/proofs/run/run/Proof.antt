@@ -86,28 +86,28 @@ loop-again-7 c = let d = c .before .before .before .before .before in rw (c .put
 loop-again-8 : tie.Need-loop-again-8 Inv-loop μ-loop
 loop-again-8 c = let d = c .before .before .before .before .before .before in (kept d, c .setting2 .ensures, rw (c .before .before .whole .ensures) (on d _ (c .before .before .before .before .e8 .given .1) refl))
 
-sub-t54 : tie.Need-sub-t54 Inv-loop μ-loop
-sub-t54 c = omega (arith, c .before .before .before .before .before .before .before .before .before .before .before .before .before .loop .inv .2 .0)
+sub-report : tie.Need-sub-report Inv-loop μ-loop
+sub-report c = omega (arith, c .before .before .before .before .before .before .before .before .before .before .before .before .before .loop .inv .2 .0)
 
 same-length : tie.Need-same-length Inv-loop μ-loop
-same-length c = kept (c .before .before .before .before)
+same-length c = kept (c .before .before .before .before .before)
 
 returns : tie.Need-returns Inv-loop μ-loop
 returns c =
-    let d = c .before .before .before .before in
+    let d = c .before .before .before .before .before in
     let p = d .before .before .before .before in
     let l = p .before .before .before .before .before .loop in
-    let h = c .before .before .e9 .given .1 in
+    let h = c .before .before .before .e9 .given .1 in
     let w = ended _ _ (l .left) (l .from) (l .g) (l .mem) _ (l .inv .2) (p .before .before .before .before .loop-test .taken) _ _ (planned d ∙ h) in
-    rw (w, c .trap .ensures) (refl, rw (d .before .before .commit .ensures, h))
+    rw (w, c .report .ensures, c .before .trap .ensures) (refl, rw (d .before .before .commit .ensures, h))
 
 same-length-2 : tie.Need-same-length-2 Inv-loop μ-loop
-same-length-2 c = c .before .loop .inv .0
+same-length-2 c = c .before .before .loop .inv .0
 
 returns-2 : tie.Need-returns-2 Inv-loop μ-loop
 returns-2 c =
-    let l = c .before .loop in
-    rw (spent _ _ (l .left) (l .from) (l .g) (l .mem) _ (l .inv .2) (c .loop-test .left)) (refl, refl)
+    let l = c .before .before .loop in
+    rw (spent _ _ (l .left) (l .from) (l .g) (l .mem) _ (l .inv .2) (c .before .loop-test .left), c .report2 .ensures) (refl, refl)
 
 pub run-spec : {M : Type 1} → statement M
 run-spec =
@@ -151,8 +151,10 @@ run-spec =
     loop-again-8
     (λ c. search needs)
     (λ c κs. search needs)
-    sub-t54
+    sub-report
+    (λ c κs. search needs)
     same-length
     returns
+    (λ c κs. search needs)
     same-length-2
     returns-2)
