@@ -3,3 +3,4 @@ pub mod Lawful
 pub mod Written
 pub mod Kept
 pub mod Turns
+pub mod Rows
