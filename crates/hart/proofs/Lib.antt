@@ -3,3 +3,5 @@ pub mod Lawful
 pub mod Written
 pub mod Kept
 pub mod Turns
+pub mod Steps
+pub mod Compose
