@@ -1,0 +1,13 @@
+-- `machine::over` meets its contract: one comparison. Assumes nothing.
+use borrow.Author.Tests.{lt-ltb, le-ltb}
+use Rattle.machine.proofs.over.Statement.{statement}
+use Rattle.machine.proofs.over.Tie as tie
+
+returns : tie.Need-returns
+returns c = rw (lt-ltb _ _ (c .if1 .taken))
+
+returns-2 : tie.Need-returns-2
+returns-2 c = rw (le-ltb _ _ (c .if1 .left))
+
+pub over-spec : {M : Type 1} → statement M
+over-spec = tie.close (tie.spec returns returns-2)
