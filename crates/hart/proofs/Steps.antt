@@ -1,10 +1,10 @@
--- Steps and runs stay among the harts that refusal 1 lets pass, and keep memory's length: along the cases of a step's effect. No number
--- needs a bound, so both hold of every hart of the definitions and from one step to the next.
+-- A step and a run of a hart that refusal 1 lets pass leave one that it lets pass, and keep the length of memory: along the
+-- cases of the step's effect. No number needs a bound, so that both iterate as they stand.
 -- Assumes nothing.
 use mathlib.Core.Bool.{Bool, true, false}
 use mathlib.Core.List.{List, [], _∷_}
 use mathlib.Core.Path.{_≡_, refl, _∙_}
-use Prim.Native.Nat.{ℕ, zero, suc, _+_, _-_, _%_, _≤_}
+use Prim.Native.Nat.{ℕ, zero, suc, _-_, _%_}
 use native.Mathlib.Omega.{arith}
 use lib.ListN.{length, getD, set}
 use Rattle.word.specs.Choice.{pick}
@@ -21,7 +21,6 @@ use Rattle.execute.proofs.Stays.{effect-stays}
 use Rattle.execute.specs.Access.{Within}
 use Rattle.execute.specs.Csrs.{mergedOf}
 use Rattle.execute.specs.Effect.{Stays}
-use Rattle.execute.specs.Register.{putOf}
 use Rattle.execute.specs.declared.Effect.{Effect}
 use Rattle.execute.specs.declared.Effect.the-variants.{Write, Jump, Pad, Store, Push, Pop, Swap, Trap}
 use Rattle.execute.specs.declared.Effect.the-variants as effect
