@@ -24,7 +24,7 @@ use Rattle.csr.specs.declared.Csr.the-variants.{Ssp, Sstatus, Stvec, Senvcfg, S
 use Rattle.word.proofs.Rows.{left, kept, each}
 use Rattle.csr.proofs.Made.{all-fit, all-seen, sixty-four, alike}
 use Rattle.status.proofs.Packed.{enter-m-legal, enter-s-legal, leave-m-legal, leave-s-legal}
-use Rattle.hart.specs.Setters.{startOf, storedOf, putOf, pointerOf}
+use Rattle.hart.specs.Setters.{withSsp, startOf, storedOf, putOf, pointerOf}
 use Rattle.hart.specs.Access.{writtenOf, csrWriteOf}
 use Rattle.hart.specs.Legal.{holds, csrsLegal, isMode, legal}
 use Rattle.hart.specs.Trap.{toS, delegatedOf, trapM, trapS, trapOf}
@@ -184,6 +184,19 @@ write-lawful n v h l = record {
   mode = l .mode;
   held = put-held n (writtenOf n v (h .ssp) (h .csrs)) (h .ssp) (h .csrs) (written-held n v (h .ssp) (h .csrs) (l .held)) (l .held);
 }
+
+-- ssp moved to a multiple of 8, as a push and a pop-check do, leaves one too
+pub moved-lawful : (v : ℕ) (h : Hart) → v % 8 ≡ 0 → Lawful h → Lawful (withSsp v h)
+moved-lawful v h e l = record {
+  zero = l .zero;
+  pc = l .pc;
+  mode = l .mode;
+  held = put-held Ssp v (h .ssp) (h .csrs) (ssp-row v ∙ and-true (eqb (v % 8) 0) ∙ eq-eqb (v % 8) 0 e) (l .held);
+}
+
+-- and a legal hart's ssp is one
+pub ssp-eight : (h : Hart) → Lawful h → h .ssp % 8 ≡ 0
+ssp-eight h l = eqb-true (h .ssp % 8) 0 (sym (and-true (eqb (h .ssp % 8) 0)) ∙ sym (ssp-row (h .ssp)) ∙ l .held Ssp)
 
 -- tvec and epc are multiples of 4
 four : (m : ℕ) → legalOf fours m ≡ true → m % 4 ≡ 0

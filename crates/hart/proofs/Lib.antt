@@ -4,3 +4,5 @@ pub mod Written
 pub mod Kept
 pub mod Turns
 pub mod Rows
+pub mod Steps
+pub mod Compose

@@ -1,0 +1,104 @@
+-- Calls chain: a run of a + b steps by one call is a run of a steps and then, where that did not trap, one of b steps from the
+-- hart and memory that it left, by two calls. The second call is taken where the first one was: a run leaves a hart that refusal 1
+-- lets pass and keeps memory's length, and the map is the same.
+-- Assumes nothing.
+use mathlib.Core.Bool.{Bool, true, false, not}
+use mathlib.Core.List.{List}
+use mathlib.Core.Path.{_≡_, refl, sym, ap, _∙_}
+use Prim.Native.Nat.{ℕ, _+_, _≤_}
+use native.Mathlib.Omega.{arith}
+use borrow.Author.Tests.{le-ltb, eq-eqb, eqb-true}
+use lib.Dec.{eqb, ltb}
+use Rattle.word.specs.Choice.{pick}
+use Rattle.word.proofs.Choices.{first, second}
+use Rattle.execute.specs.declared.Source.the-variants.{Fetch}
+use Rattle.hart.specs.Legal.{legal}
+use Rattle.hart.specs.Run.{Run, runOf}
+use Rattle.hart.specs.declared.Hart.{Hart}
+use Rattle.hart.proofs.Steps.{run-legal, run-length}
+use Rattle.hart.proofs.Compose.{onward, run-composes}
+use Rattle.machine.specs.Call.{Called, refusalOf, runRefusalOf, refusedWith, takenWith, calledOf, runCall}
+use Rattle.machine.proofs.Accepted.{no-refusal}
+
+-- a call's outcome, with k steps that were taken before it
+abbrev pub counted : (k : ℕ) → Called → Called
+counted k c = record {
+  answer = record {
+    refusal = c .answer .refusal;
+    hart = c .answer .hart;
+    count = k + c .answer .count;
+    trapped = c .answer .trapped;
+    cause = c .answer .cause;
+  };
+  memory = c .memory;
+}
+
+-- a call, and where it did not trap the next one, its steps counted on
+abbrev pub followedBy : (trapped : Bool) → Called → (rest : Called) → Called
+followedBy true c rest = c
+followedBy false c rest = counted (c .answer .count) rest
+
+-- a call c, and then a run of b steps from the hart and memory that it left
+abbrev pub thenCall : Called → (b : ℕ) → (map : List ℕ) → Called
+thenCall c b map = followedBy (c .answer .trapped) c (runCall b (c .answer .hart) (c .memory) map)
+
+-- a budget that is not too large adds no refusal
+within-budget : (n budget : ℕ) → budget ≤ 1000000 → pick (eqb n 0) (pick (ltb 1000000 budget) 4 0) n ≡ n
+within-budget n budget l = rw (le-ltb 1000000 budget l) (same (eqb n 0) refl)
+  where
+    same : (b : Bool) → eqb n 0 ≡ b → pick b 0 n ≡ n
+    same true e = sym (eqb-true n 0 e)
+    same false e = refl
+
+passes : (b : Bool) → not b ≡ false → b ≡ true
+passes true e = refl
+passes false e = cc
+
+-- one after the other, as runs and as calls
+taken-each : (t : Bool) (r s : Run) → takenWith (onward t r s) ≡ followedBy t (takenWith r) (takenWith s)
+taken-each true r s = refl
+taken-each false r s = refl
+
+module _ (budget : ℕ) (h : Hart) (m map : List ℕ) where
+  -- refusals 1 to 3 decide, where the budget is not too large
+  by-refusal : budget ≤ 1000000 → runCall budget h m map ≡ calledOf (refusalOf h m map) h m (runOf budget h m map)
+  unfolding runCall runRefusalOf
+  by-refusal l = ap (λ (n : ℕ). calledOf n h m (runOf budget h m map)) (within-budget (refusalOf h m map) budget l)
+
+  taken : budget ≤ 1000000 → refusalOf h m map ≡ 0 → runCall budget h m map ≡ takenWith (runOf budget h m map)
+  taken l e = by-refusal l ∙ first _ _ _ (eq-eqb (refusalOf h m map) 0 e)
+
+  refused : budget ≤ 1000000 → eqb (refusalOf h m map) 0 ≡ false → runCall budget h m map ≡ refusedWith (refusalOf h m map) h m
+  refused l e = by-refusal l ∙ second _ _ _ e
+
+  -- refusals 1 to 3 do not apply to what a run leaves, where they did not apply before
+  pub left-accepted : refusalOf h m map ≡ 0 → refusalOf (runOf budget h m map .hart) (runOf budget h m map .memory) map ≡ 0
+  unfolding refusalOf
+  left-accepted e =
+      let (p, q, r) = no-refusal h m map e in
+      rw (run-legal Fetch budget h m map (passes (legal h) p), run-length Fetch budget h m map, q, r)
+
+-- the calls chain, those that refusals 1 to 3 apply to included: then each gives the same refusal
+module _ (a b : ℕ) (h : Hart) (m map : List ℕ) (l : a + b ≤ 1000000) where
+  chains-taken : refusalOf h m map ≡ 0 → runCall (a + b) h m map ≡ thenCall (runCall a h m map) b map
+  chains-taken e =
+      let r : Run = runOf a h m map in
+      let s : Run = runOf b (r .hart) (r .memory) map in
+      taken (a + b) h m map l e
+      ∙ ap takenWith (run-composes a b h m map)
+      ∙ taken-each (r .trapped) r s
+      ∙ ap (followedBy (r .trapped) (takenWith r)) (sym (taken b (r .hart) (r .memory) map (omega arith) (left-accepted a h m map e)))
+      ∙ ap (λ (c : Called). thenCall c b map) (sym (taken a h m map (omega arith) e))
+
+  chains-refused : eqb (refusalOf h m map) 0 ≡ false → runCall (a + b) h m map ≡ thenCall (runCall a h m map) b map
+  chains-refused e =
+      refused (a + b) h m map l e
+      ∙ ap (counted 0) (sym (refused b h m map (omega arith) e))
+      ∙ ap (λ (c : Called). thenCall c b map) (sym (refused a h m map (omega arith) e))
+
+  pub call-chains : runCall (a + b) h m map ≡ thenCall (runCall a h m map) b map
+  call-chains = go (eqb (refusalOf h m map) 0) refl
+    where
+      go : (z : Bool) → eqb (refusalOf h m map) 0 ≡ z → runCall (a + b) h m map ≡ thenCall (runCall a h m map) b map
+      go true e = chains-taken (eqb-true (refusalOf h m map) 0 e)
+      go false e = chains-refused e
