@@ -125,10 +125,10 @@ pub fn run(h: Hart, mem: &mut [u8], map: &[u64], budget: u64) -> Answer
     let n = run_refusal(h, mem, map, budget);
     if n == 0 {
         let r = run::run(h, Source::Fetch, mem, map, budget);
-        let g = r.hart;
+        let end = r.hart;
         return Answer {
             refusal: 0,
-            hart: g,
+            hart: end,
             count: r.count,
             trapped: r.trapped,
             cause: r.cause,
