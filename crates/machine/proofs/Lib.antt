@@ -1,3 +1,4 @@
 -- The laws of the calls.
 pub mod Accepted
 pub mod Chained
+pub mod Determined
