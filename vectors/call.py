@@ -5,7 +5,8 @@ A case is `[WORD ..] CALL | ANSWER`: a hart, a page map and a memory, the call, 
     NAME=VALUE                   a part of the hart, as in vectors/hart.py; what is not named is as in BASE
     memory=LENGTH                how many bytes memory has; 0x1000 where it is not said
     b@ADDRESS=NUMBER             one byte of it by its physical address; h@, w@ and d@ for 2, 4 and 8 bytes, the lowest first;
-                                 code@ADDRESS=WORD,WORD,.. for words in a row. What is not named is 0
+                                 code@ADDRESS=WORD,WORD,.. for words in a row, program@ADDRESS=NAME for those of
+                                 vectors/programs/NAME.s. What is not named is 0
     page=NUMBER:LEAF             an entry of the map, as in vectors/place.py
     made=COUNT@PAGE:LEAF         that many entries, of rising pages and rising frames, before those of page=
     words=NUMBER,NUMBER,..       words of the map as they are, after the entries
@@ -30,6 +31,7 @@ import re
 
 import hart
 import manifest
+import programs
 from hart import FIELDS, PARTS, START, with_settings
 from manifest import LARGEST, Wrong, choice, hexadecimal, number, parts, said
 from place import entries
@@ -50,12 +52,14 @@ SAVED = {"M": ("mtvec", "mepc", "mcause", "mtval", "MPP", "MIE", "MPIE", "MPELP"
 
 def stored(text):
     """The bytes of `w@0x80000000=0x..`, by offset; None for a word of another form."""
-    found = re.fullmatch(r"(b|h|w|d|code)@(\w+)=(\S+)", text)
+    found = re.fullmatch(r"(b|h|w|d|code|program)@(\w+)=(\S+)", text)
     if not found:
         return None
     size = SIZES.get(found[1], 4)
     at = number(found[2], FIRST_ADDRESS, FIRST_ADDRESS + MOST_MEMORY - size, "physical address") - FIRST_ADDRESS
     values = found[3].split(",") if found[1] == "code" else [found[3]]
+    if found[1] == "program":
+        values = [str(word) for word in programs.words(found[3])]
     there = {}
     for i, value in enumerate(values):
         n = number(value, 0, (1 << 8 * size) - 1, f"number of {size} bytes")
@@ -235,4 +239,4 @@ class Maker:
 
 
 # In the order in which the program runs them.
-MAKERS = [Maker(name) for name in ["instruction", "control", "shadow", "pad", "fault", "run", "refusal"]]
+MAKERS = [Maker(name) for name in ["instruction", "control", "shadow", "pad", "fault", "run", "refusal", "program"]]
