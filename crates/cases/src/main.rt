@@ -15,8 +15,14 @@ use lines::report::Fault;
 
 // Loads and stores.
 mod bytes;
+// Steps and runs: the public calls.
+mod call;
+// The content of a memory.
+mod content;
 // Instruction words.
 mod decode;
+// A page map.
+mod entries;
 // Pointer masking alone.
 mod mask;
 // CSRs, refusal 1, traps and returns: what is done to a hart.
@@ -38,6 +44,7 @@ enum Subject {
     Bytes,
     Refused,
     Hart,
+    Call,
 }
 
 // 262,144 zeros, for a whole file.
@@ -59,6 +66,7 @@ fn run(subject: Subject, c: Counts, s: &[u8], at: Line, numbers: &[u64; MOST]) -
         Subject::Bytes => bytes::judge(c, s, at, numbers),
         Subject::Refused => refused::judge(c, s, at, numbers),
         Subject::Hart => operation::judge(c, s, at, numbers),
+        Subject::Call => call::judge(c, s, at, numbers),
     }
 }
 
@@ -132,5 +140,13 @@ fn main() {
     let legal = file(Subject::Hart, regime, b"legal.txt");
     let trap = file(Subject::Hart, legal, b"trap.txt");
     let returns = file(Subject::Hart, trap, b"returns.txt");
-    report::total(returns);
+    let instruction = file(Subject::Call, returns, b"instruction.txt");
+    let control = file(Subject::Call, instruction, b"control.txt");
+    let shadow = file(Subject::Call, control, b"shadow.txt");
+    let pad = file(Subject::Call, shadow, b"pad.txt");
+    let fault = file(Subject::Call, pad, b"fault.txt");
+    let runs = file(Subject::Call, fault, b"run.txt");
+    let refusal = file(Subject::Call, runs, b"refusal.txt");
+    let program = file(Subject::Call, refusal, b"program.txt");
+    report::total(program);
 }

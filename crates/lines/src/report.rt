@@ -96,7 +96,8 @@ pub fn broken(c: Counts, what: &[u8], fault: Fault) -> Counts
     failed(c)
 }
 
-fn same(a: &[u64], b: &[u64]) -> bool
+// Whether two rows of numbers are the same.
+pub fn same(a: &[u64], b: &[u64]) -> bool
     ensures { λ r. ⌜ (r ≡ true → now (a .entry) ≡ now (b .entry)) × (now (a .entry) ≡ now (b .entry) → r ≡ true) ⌝ }
 {
     if a.len() != b.len() {
