@@ -18,6 +18,8 @@ use page::map;
 use page::map::Found;
 ghost use mathlib.Core.Path.{_≡_};
 ghost use Prim.Native.Nat.{_^_, _≤_};
+ghost use Rattle.isa.specs.declared.Width.the-variants.{Word};
+ghost use Rattle.page.specs.declared.Kind.the-variants.{Fetch};
 ghost use Rattle.address.specs.Place.{withinOf, insideOf, canonicalOf, settleOf, throughOf, pagedPlaceOf, plainPlaceOf, placeOf};
 
 // Where an access goes, or why it does not: cause and tval.
@@ -105,7 +107,23 @@ fn plain(k: Kind, w: Width, t: Virtual, len: u64) -> Place
     inside(k, w, len, Physical(t.0), t)
 }
 
-// The only way from a Virtual to a Physical, in Bare and in M too.
+// The nine steps for a fetch, which is not masked and always has the current mode. Every step of a run makes one: on its own, it
+// is compiled into the run's loop, and so is what is left of `translate`.
+pub fn fetch(c: Control, a: Virtual, map: &[u64], len: u64) -> Place
+    requires { ⌜ len ≤ 2 ^ 20 ⌝ }
+    ensures { λ r. ⌜ r ≡ placeOf c Fetch Word (a .0) (now (map .entry)) len ⌝ }
+{
+    let m = c.mode;
+    if align::aligned(Width::Word, a) {
+        if control::paged(c, m) {
+            return paged(control::regime(c, m), Kind::Fetch, Width::Word, a, map, len);
+        }
+        return plain(Kind::Fetch, Width::Word, a, len);
+    }
+    Place::Fault(cause::misaligned(Kind::Fetch), a.0)
+}
+
+// The only ways from a Virtual to a Physical, in Bare and in M too, are this and `fetch`.
 pub fn translate(c: Control, k: Kind, w: Width, a: Virtual, map: &[u64], len: u64) -> Place
     requires { ⌜ len ≤ 2 ^ 20 ⌝ }
     ensures { λ r. ⌜ r ≡ placeOf c k w (a .0) (now (map .entry)) len ⌝ }

@@ -33,7 +33,7 @@ use Rattle.execute.specs.Access.{gateOf, addressOf, readOf, poppedOf, do
 use Rattle.execute.specs.Compute.{conditionOf}
 use Rattle.execute.specs.Csrs.{reachedOf, csrOf}
 use Rattle.execute.specs.Instruction.{nextOf, executeOf}
-use Rattle.execute.specs.Jump.{evenOf, goneOf, jalrOf, branchOf}
+use Rattle.execute.specs.Jump.{evenOf, jalOf, jalrOf, branchOf}
 use Rattle.execute.specs.Plan.{fetchedOf, isPad, landedOf, arrivedOf, effectOf}
 use Rattle.execute.specs.Register.{regOf}
 use Rattle.execute.specs.System.{mretOf, sretOf}
@@ -71,9 +71,9 @@ chosen : (b : Bool) (e f : Effect) → (b ≡ true → Aligned e) → Aligned f 
 chosen true e f p q = p refl
 chosen false e f p q = q
 
-gone-aligned : (rd link target : ℕ) → Aligned (goneOf rd link target)
-unfolding goneOf
-gone-aligned rd link target = chosen (eqb (target % 4) 0) _ _ (eqb-true (target % 4) 0) tt
+jal-aligned : (rd link target : ℕ) → Aligned (jalOf rd link target)
+unfolding jalOf
+jal-aligned rd link target = chosen (eqb (target % 4) 0) _ _ (eqb-true (target % 4) 0) tt
 
 jalr-aligned : (rd rs1 link target : ℕ) (pad : Bool) → Aligned (jalrOf rd rs1 link target pad)
 unfolding jalrOf
@@ -81,7 +81,7 @@ jalr-aligned rd rs1 link target pad = chosen (eqb (evenOf target % 4) 0) _ _ (eq
 
 branch-aligned : (taken : Bool) (next target : ℕ) → next % 4 ≡ 0 → Aligned (branchOf taken next target)
 unfolding branchOf
-branch-aligned taken next target n = chosen taken _ _ (λ _. gone-aligned 0 0 target) n
+branch-aligned taken next target n = chosen taken _ _ (λ _. jal-aligned 0 0 target) n
 
 mret-aligned : (m : Mode) (word : ℕ) → Aligned (mretOf m word)
 mret-aligned User word = tt
@@ -129,7 +129,7 @@ module _ (x : List ℕ) (pc ssp : ℕ) (s : Setting) (m map : List ℕ) (p : pc 
   execute-aligned word Illegal = tt
   execute-aligned word (Lui rd v) = next-aligned
   execute-aligned word (Auipc rd v) = next-aligned
-  execute-aligned word (Jal rd off) = gone-aligned rd _ _
+  execute-aligned word (Jal rd off) = jal-aligned rd _ _
   execute-aligned word (Jalr rd rs1 off) = jalr-aligned rd rs1 _ _ (s .pad)
   execute-aligned word (Branch k rs1 rs2 off) = branch-aligned (conditionOf k (regOf x rs1) (regOf x rs2)) _ _ next-aligned
   execute-aligned word (Memory k rd rs1 rs2 off) =

@@ -32,7 +32,7 @@ use Rattle.execute.specs.Compute.{conditionOf}
 use Rattle.execute.specs.Csrs.{reachedOf, csrOf}
 use Rattle.execute.specs.Effect.{Stays}
 use Rattle.execute.specs.Instruction.{executeOf}
-use Rattle.execute.specs.Jump.{evenOf, goneOf, jalrOf, branchOf}
+use Rattle.execute.specs.Jump.{evenOf, jalOf, jalrOf, branchOf}
 use Rattle.execute.specs.Plan.{fetchedOf, isPad, landedOf, arrivedOf, effectOf}
 use Rattle.execute.specs.Register.{regOf}
 use Rattle.execute.specs.System.{mretOf, sretOf}
@@ -49,9 +49,9 @@ chosen : (b : Bool) (e f : Effect) (len : ℕ) → Stays e len → Stays f len �
 chosen true e f len p q = p
 chosen false e f len p q = q
 
-gone-stays : (rd link target len : ℕ) → Stays (goneOf rd link target) len
-unfolding goneOf
-gone-stays rd link target len = chosen (eqb (target % 4) 0) _ _ len (omega arith) (omega arith)
+jal-stays : (rd link target len : ℕ) → Stays (jalOf rd link target) len
+unfolding jalOf
+jal-stays rd link target len = chosen (eqb (target % 4) 0) _ _ len (omega arith) (omega arith)
 
 jalr-stays : (rd rs1 link target : ℕ) (pad : Bool) (len : ℕ) → Stays (jalrOf rd rs1 link target pad) len
 unfolding jalrOf
@@ -59,7 +59,7 @@ jalr-stays rd rs1 link target pad len = chosen (eqb (evenOf target % 4) 0) _ _ l
 
 branch-stays : (taken : Bool) (next target len : ℕ) → Stays (branchOf taken next target) len
 unfolding branchOf
-branch-stays taken next target len = chosen taken _ _ len (gone-stays 0 0 target len) (omega arith)
+branch-stays taken next target len = chosen taken _ _ len (jal-stays 0 0 target len) (omega arith)
 
 mret-stays : (m : Mode) (word len : ℕ) → Stays (mretOf m word) len
 mret-stays User word len = omega arith
@@ -104,7 +104,7 @@ module _ (x : List ℕ) (pc ssp : ℕ) (s : Setting) (m map : List ℕ) where
   execute-stays word Illegal = omega arith
   execute-stays word (Lui rd v) = omega arith
   execute-stays word (Auipc rd v) = omega arith
-  execute-stays word (Jal rd off) = gone-stays rd _ _ (length m)
+  execute-stays word (Jal rd off) = jal-stays rd _ _ (length m)
   execute-stays word (Jalr rd rs1 off) = jalr-stays rd rs1 _ _ (s .pad) (length m)
   execute-stays word (Branch k rs1 rs2 off) = branch-stays (conditionOf k (regOf x rs1) (regOf x rs2)) _ _ (length m)
   execute-stays word (Memory k rd rs1 rs2 off) = passed-stays (gateOf k (s .shadow) (s .permitted)) k word rd (regOf x rs1) (regOf x rs2) off ssp _ s m map

@@ -1,4 +1,4 @@
--- What an effect stores lies in memory.
+-- What is asked of an effect before it is applied.
 use Prim.Native.Nat.{ℕ, _≤_}
 use Rattle.isa.specs.declared.Width.the-variants.{Double}
 use Rattle.execute.specs.Access.{Within}

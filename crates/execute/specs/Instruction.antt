@@ -11,7 +11,7 @@ use Rattle.csr.specs.Exception.{illegalOf, breakpointOf, callOf}
 use Rattle.execute.specs.Access.{accessOf}
 use Rattle.execute.specs.Compute.{operationOf, wordOperationOf, conditionOf}
 use Rattle.execute.specs.Csrs.{csrOf}
-use Rattle.execute.specs.Jump.{goneOf, jalrOf, branchOf}
+use Rattle.execute.specs.Jump.{jalOf, jalrOf, branchOf}
 use Rattle.execute.specs.Register.{regOf}
 use Rattle.execute.specs.System.{trapWith, mretOf, sretOf}
 use Rattle.execute.specs.declared.Setting.{Setting}
@@ -30,7 +30,7 @@ unfoldable pub executeOf : Instruction → (word : ℕ) → (x : List ℕ) → (
 executeOf Illegal word x pc ssp s m map = trapWith (illegalOf word)
 executeOf (Lui rd v) word x pc ssp s m map = Write rd v (nextOf pc)
 executeOf (Auipc rd v) word x pc ssp s m map = Write rd (sumOf pc v) (nextOf pc)
-executeOf (Jal rd off) word x pc ssp s m map = goneOf rd (nextOf pc) (sumOf pc off)
+executeOf (Jal rd off) word x pc ssp s m map = jalOf rd (nextOf pc) (sumOf pc off)
 executeOf (Jalr rd rs1 off) word x pc ssp s m map = jalrOf rd rs1 (nextOf pc) (sumOf (regOf x rs1) off) (s .pad)
 executeOf (Branch k rs1 rs2 off) word x pc ssp s m map =
     branchOf (conditionOf k (regOf x rs1) (regOf x rs2)) (nextOf pc) (sumOf pc off)

@@ -74,8 +74,9 @@ fn address(a: Access, at: u64, ssp: u64) -> Virtual
 fn popped(top: u64, v: u64, ssp: u64, next: u64) -> Effect
     ensures { λ r. ⌜ r ≡ poppedOf top v ssp next ⌝ }
 {
+    let up = sum::sum(ssp, 8);
     if top == v {
-        return Effect::Pop(sum::sum(ssp, 8), next);
+        return Effect::Pop(up, next);
     }
     Effect::Trap(18, 3)
 }

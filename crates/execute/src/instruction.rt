@@ -71,7 +71,7 @@ pub fn execute(
         Instruction::Illegal => system::illegal(word),
         Instruction::Lui(rd, v) => Effect::Write(rd, v, next),
         Instruction::Auipc(rd, v) => Effect::Write(rd, sum::sum(pc, v), next),
-        Instruction::Jal(rd, off) => jump::gone(rd, next, sum::sum(pc, off)),
+        Instruction::Jal(rd, off) => jump::jal(rd, next, sum::sum(pc, off)),
         Instruction::Jalr(rd, rs1, off) => jump::jalr(rd, rs1, next, reg(x, rs1), off, s.pad),
         Instruction::Branch(k, rs1, rs2, off) => branch(k, reg(x, rs1), reg(x, rs2), next, pc, off),
         Instruction::Memory(k, rd, rs1, rs2, off) => access::access(

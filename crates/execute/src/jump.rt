@@ -6,11 +6,11 @@ use word::sum;
 ghost use mathlib.Core.Path.{_≡_};
 ghost use mathlib.Core.Bool.{_&&_, _||_, not};
 ghost use Rattle.word.specs.Sum.{sumOf};
-ghost use Rattle.execute.specs.Jump.{evenOf, isLink, goneOf, jalrOf, branchOf};
+ghost use Rattle.execute.specs.Jump.{evenOf, needsNoPad, jalOf, jalrOf, branchOf};
 
 // JAL: rd takes the link. Also a branch that is taken, whose rd is 0.
-pub fn gone(rd: u8, link: u64, target: u64) -> Effect
-    ensures { λ r. ⌜ r ≡ goneOf rd link target ⌝ }
+pub fn jal(rd: u8, link: u64, target: u64) -> Effect
+    ensures { λ r. ⌜ r ≡ jalOf rd link target ⌝ }
 {
     if target % 4 == 0 {
         return Effect::Write(rd, link, target);
@@ -18,9 +18,9 @@ pub fn gone(rd: u8, link: u64, target: u64) -> Effect
     Effect::Trap(cause::misaligned(Kind::Fetch), target)
 }
 
-// A register through which a return or a software-guarded jump goes.
-fn is_link(rs1: u8) -> bool
-    ensures { λ r. ⌜ r ≡ isLink rs1 ⌝ }
+// x1 and x5, through which a function returns, and x7, which holds a landing pad's label.
+fn needs_no_pad(rs1: u8) -> bool
+    ensures { λ r. ⌜ r ≡ needsNoPad rs1 ⌝ }
 {
     any(rs1 == 1, rs1 == 5, rs1 == 7)
 }
@@ -43,7 +43,7 @@ pub fn jalr(rd: u8, rs1: u8, link: u64, a: u64, off: u64, pad: bool) -> Effect
 {
     let to = even(sum::sum(a, off));
     if to % 4 == 0 {
-        return Effect::Jump(rd, link, to, expected(pad, is_link(rs1)));
+        return Effect::Jump(rd, link, to, expected(pad, needs_no_pad(rs1)));
     }
     Effect::Trap(cause::misaligned(Kind::Fetch), to)
 }
@@ -67,7 +67,7 @@ pub fn branch(taken: bool, next: u64, target: u64) -> Effect
     ensures { λ r. ⌜ r ≡ branchOf taken next target ⌝ }
 {
     if taken {
-        return gone(0, 0, target);
+        return jal(0, 0, target);
     }
     Effect::Write(0, 0, next)
 }

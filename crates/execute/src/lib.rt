@@ -1,5 +1,5 @@
 // What an instruction does, from its operands' values: a small value, the effect, which the hart applies. Nothing here
-// knows a hart, and nothing here changes anything.
+// knows a hart, and nothing here changes anything but `register::put`, which writes a lent array.
 use address::Physical;
 use address::control::Control;
 use csr::Csr;

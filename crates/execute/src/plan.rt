@@ -8,8 +8,6 @@ use address::Virtual;
 use address::control::Control;
 use address::place;
 use address::place::Place;
-use isa::Width;
-use page::Kind;
 use word::choice;
 use word::sum;
 ghost use mathlib.Core.Path.{_≡_};
@@ -31,14 +29,7 @@ fn fetch(source: Source, c: Control, pc: u64, mem: &[u8], map: &[u64]) -> Fetche
     match source {
         Source::Given(w) => Fetched::Word(w),
         Source::Fetch => {
-            let p = place::translate(
-                c,
-                Kind::Fetch,
-                Width::Word,
-                Virtual(pc),
-                map,
-                mem.len() as u64,
-            );
+            let p = place::fetch(c, Virtual(pc), map, mem.len() as u64);
             match p {
                 Place::At(q) => Fetched::Word(memory::word(mem, q.index())),
                 Place::Fault(cause, tval) => Fetched::Fault(cause, tval),

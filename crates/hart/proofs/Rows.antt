@@ -28,7 +28,7 @@ module _ (h : Hart) (m map : List ℕ) where
   abbrev shadow : Bool
   shadow = shadowOn (h .mode) (h .csrs .menvcfg) (h .csrs .senvcfg)
 
-  -- 0xCDC04573, shadow enable on: reads ssp into x10
+  -- 0xCDC04573, shadow enable on: reads ssp into x10 (where no landing pad is expected, which the row leaves unsaid)
   pub step-5 : shadow ≡ true → h .elp && pads ≡ false
       → stepWordOf 0xCDC04573 h m map ≡ went (withPc (nextOf (h .pc)) (withReg 10 (h .ssp) h)) m
   unfolding stepFrom effectOf fetchedOf arrivedOf landedOf executeOf settingOf

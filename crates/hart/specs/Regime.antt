@@ -14,7 +14,7 @@ use Rattle.hart.specs.declared.Csrs.{Csrs}
 abbrev pub pmmBits : ℕ → ℕ
 pmmBits w = digit 32 2 w
 
--- what a mode and these CSRs say about accesses: MPRV, MPP, SUM and MXR of mstatus, satp's MODE 8, and menvcfg.SSE
+-- what a mode and these CSRs say about accesses: MPRV, MPP, SUM and MXR of mstatus, satp's MODE 8, menvcfg.SSE, and the three PMMs
 unfoldable pub controlOf : (mode mstatus satp menvcfg senvcfg mseccfg : ℕ) → Control
 controlOf mode mstatus satp menvcfg senvcfg mseccfg = record {
   mode = modeOf mode;

@@ -1,4 +1,4 @@
-// The hart: a value that each operation takes and hands back, and what changes it without executing an ordinary instruction. Any
+// The hart: a value that each operation takes and hands back, and what changes it: CSR access, traps, returns, steps and runs. Any
 // value may be handed in: `legal` says which ones refusal 1 lets pass.
 pub mod access;
 pub mod legal;

@@ -1,5 +1,5 @@
 // A step: the effect of the instruction at pc, or of a given word, applied to the hart and to memory. It is a run of one
-// step, so that one loop makes every step (docs/ARCHITECTURE.md says why).
+// step: the compiler inlines the making of an effect only where it has one caller, and that is the run's loop.
 use super::Hart;
 use super::run;
 use super::run::Ran;

@@ -1,6 +1,7 @@
--- Calls chain: a run of a + b steps by one call is a run of a steps and then, where that did not trap, one of b steps from the
--- hart and memory that it left, by two calls. The second call is taken where the first one was: a run leaves a hart that refusal 1
--- lets pass and keeps memory's length, and the map is the same.
+-- Calls chain: a run of a steps and then, where that did not trap, one of b steps from the hart and memory that it left, by two
+-- calls, is the run of a + b steps (`calls-chain`, for budgets that the calls take, whatever their sum), and where a + b is no
+-- more than a call takes, it is one call (`call-chains`). The second call is taken where the first one was: what a call leaves
+-- passes refusal 1, memory keeps its length, and the map is the same (`left-accepted`, `step-accepted`).
 -- Assumes nothing.
 use mathlib.Core.Bool.{Bool, true, false, not}
 use mathlib.Core.List.{List}
@@ -11,11 +12,13 @@ use borrow.Author.Tests.{le-ltb, eq-eqb, eqb-true}
 use lib.Dec.{eqb, ltb}
 use Rattle.word.specs.Choice.{pick}
 use Rattle.word.proofs.Choices.{first, second}
+use Rattle.execute.specs.declared.Source.{Source}
 use Rattle.execute.specs.declared.Source.the-variants.{Fetch}
 use Rattle.hart.specs.Legal.{legal}
-use Rattle.hart.specs.Run.{Run, runOf}
+use Rattle.hart.specs.Run.{Run, runFrom, runOf}
+use Rattle.hart.specs.Step.{stepFrom}
 use Rattle.hart.specs.declared.Hart.{Hart}
-use Rattle.hart.proofs.Steps.{run-legal, run-length}
+use Rattle.hart.proofs.Steps.{step-legal, step-length, run-legal, run-length}
 use Rattle.hart.proofs.Compose.{onward, run-composes}
 use Rattle.machine.specs.Call.{Called, refusalOf, runRefusalOf, refusedWith, takenWith, calledOf, runCall}
 use Rattle.machine.proofs.Accepted.{no-refusal}
@@ -59,6 +62,22 @@ taken-each : (t : Bool) (r s : Run) → takenWith (onward t r s) ≡ followedBy 
 taken-each true r s = refl
 taken-each false r s = refl
 
+-- refusals 1 to 3 do not apply to what a run leaves, where they did not apply before, whatever its first word came from
+pub left-accepted : (source : Source) (budget : ℕ) (h : Hart) (m map : List ℕ) → refusalOf h m map ≡ 0
+    → refusalOf (runFrom source budget h m map .hart) (runFrom source budget h m map .memory) map ≡ 0
+unfolding refusalOf
+left-accepted source budget h m map e =
+    let (p, q, r) = no-refusal h m map e in
+    rw (run-legal source budget h m map (passes (legal h) p), run-length source budget h m map, q, r)
+
+-- nor to what a step leaves, fetched or given
+pub step-accepted : (source : Source) (h : Hart) (m map : List ℕ) → refusalOf h m map ≡ 0
+    → refusalOf (stepFrom source h m map .hart) (stepFrom source h m map .memory) map ≡ 0
+unfolding refusalOf
+step-accepted source h m map e =
+    let (p, q, r) = no-refusal h m map e in
+    rw (step-legal source h m map (passes (legal h) p), step-length source h m map, q, r)
+
 module _ (budget : ℕ) (h : Hart) (m map : List ℕ) where
   -- refusals 1 to 3 decide, where the budget is not too large
   by-refusal : budget ≤ 1000000 → runCall budget h m map ≡ calledOf (refusalOf h m map) h m (runOf budget h m map)
@@ -71,24 +90,21 @@ module _ (budget : ℕ) (h : Hart) (m map : List ℕ) where
   refused : budget ≤ 1000000 → eqb (refusalOf h m map) 0 ≡ false → runCall budget h m map ≡ refusedWith (refusalOf h m map) h m
   refused l e = by-refusal l ∙ second _ _ _ e
 
-  -- refusals 1 to 3 do not apply to what a run leaves, where they did not apply before
-  pub left-accepted : refusalOf h m map ≡ 0 → refusalOf (runOf budget h m map .hart) (runOf budget h m map .memory) map ≡ 0
-  unfolding refusalOf
-  left-accepted e =
-      let (p, q, r) = no-refusal h m map e in
-      rw (run-legal Fetch budget h m map (passes (legal h) p), run-length Fetch budget h m map, q, r)
+-- two calls, of budgets that a call takes, give the run of the sum: so a host may go on for as long as it likes
+pub calls-chain : (a b : ℕ) (h : Hart) (m map : List ℕ) → a ≤ 1000000 → b ≤ 1000000 → refusalOf h m map ≡ 0
+    → thenCall (runCall a h m map) b map ≡ takenWith (runOf (a + b) h m map)
+calls-chain a b h m map la lb e =
+    let r : Run = runOf a h m map in
+    let s : Run = runOf b (r .hart) (r .memory) map in
+    ap (λ (c : Called). thenCall c b map) (taken a h m map la e)
+    ∙ ap (followedBy (r .trapped) (takenWith r)) (taken b (r .hart) (r .memory) map lb (left-accepted Fetch a h m map e))
+    ∙ sym (taken-each (r .trapped) r s)
+    ∙ sym (ap takenWith (run-composes a b h m map))
 
--- the calls chain, those that refusals 1 to 3 apply to included: then each gives the same refusal
+-- one call and two are the same, those that refusals 1 to 3 apply to included: then each gives the same refusal
 module _ (a b : ℕ) (h : Hart) (m map : List ℕ) (l : a + b ≤ 1000000) where
   chains-taken : refusalOf h m map ≡ 0 → runCall (a + b) h m map ≡ thenCall (runCall a h m map) b map
-  chains-taken e =
-      let r : Run = runOf a h m map in
-      let s : Run = runOf b (r .hart) (r .memory) map in
-      taken (a + b) h m map l e
-      ∙ ap takenWith (run-composes a b h m map)
-      ∙ taken-each (r .trapped) r s
-      ∙ ap (followedBy (r .trapped) (takenWith r)) (sym (taken b (r .hart) (r .memory) map (omega arith) (left-accepted a h m map e)))
-      ∙ ap (λ (c : Called). thenCall c b map) (sym (taken a h m map (omega arith) e))
+  chains-taken e = taken (a + b) h m map l e ∙ sym (calls-chain a b h m map (omega arith) (omega arith) e)
 
   chains-refused : eqb (refusalOf h m map) 0 ≡ false → runCall (a + b) h m map ≡ thenCall (runCall a h m map) b map
   chains-refused e =

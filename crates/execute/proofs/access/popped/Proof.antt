@@ -7,7 +7,7 @@ use Rattle.execute.proofs.access.popped.Tie as tie
 
 returns : tie.Need-returns
 unfolding poppedOf
-returns c = rw (c .sum .ensures, eq-eqb _ _ (c .before .if1 .taken))
+returns c = rw (c .before .sum .ensures, eq-eqb _ _ (c .if1 .taken))
 
 returns-2 : tie.Need-returns-2
 unfolding poppedOf

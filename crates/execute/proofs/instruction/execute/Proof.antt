@@ -18,7 +18,7 @@ returns-3 c = rw (c .sum2 .ensures, c .before .before .i2 .given .1, c .before .
 
 returns-4 : tie.Need-returns-4
 unfolding executeOf
-returns-4 c = rw (c .gone .ensures, c .before .sum3 .ensures, c .before .before .before .i3 .given .1, c .before .before .before .before .before .before .sum .ensures)
+returns-4 c = rw (c .jal .ensures, c .before .sum3 .ensures, c .before .before .before .i3 .given .1, c .before .before .before .before .before .before .sum .ensures)
 
 returns-5 : tie.Need-returns-5
 unfolding executeOf

@@ -6,7 +6,7 @@ use Rattle.execute.proofs.jump.branch.Tie as tie
 
 returns : tie.Need-returns
 unfolding branchOf
-returns c = rw (c .gone .ensures, c .before .if1 .taken)
+returns c = rw (c .jal .ensures, c .before .if1 .taken)
 
 returns-2 : tie.Need-returns-2
 unfolding branchOf

@@ -7,7 +7,7 @@ use Rattle.execute.proofs.jump.jalr.Tie as tie
 
 returns : tie.Need-returns
 unfolding jalrOf
-returns c = rw (c .expected .ensures, c .before .is-link .ensures, ← c .before .before .before .before .sum .ensures, ← c .before .before .before .even .ensures, eq-eqb _ _ (c .before .before .if1 .taken))
+returns c = rw (c .expected .ensures, c .before .needs-no-pad .ensures, ← c .before .before .before .before .sum .ensures, ← c .before .before .before .even .ensures, eq-eqb _ _ (c .before .before .if1 .taken))
 
 returns-2 : tie.Need-returns-2
 unfolding jalrOf
