@@ -81,7 +81,7 @@ fn called(call: u64, argument: u64, h: Hart, mem: &mut [u8], map: &[u64]) -> Ans
     }
 }
 
-// Whether the call is one, its argument one that it can have, ELP a bit, and the map has room.
+// Whether the call is one, its argument one that it can have, and ELP a bit.
 fn known(n: &[u64; MOST]) -> bool {
     let argument = n[0] == 2 || (n[0] == 1 && n[1] <= 0xffff_ffff) || (n[0] == 0 && n[1] == 0);
     argument && n[37] <= 1
