@@ -1,3 +1,4 @@
+pub mod Call
 pub mod Kinds
 pub mod Shown
 pub mod State

@@ -9,7 +9,9 @@ ghost use mathlib.Core.Path.{_≡_};
 ghost use Prim.Native.Nat.{_≤_, _+_};
 ghost use Rattle.lines.specs.Counted.{oneMore};
 ghost use Rattle.lines.specs.Most.{most};
-ghost use lib.ListN.{length};
+ghost use lib.ListN.{length, replicate};
+ghost use lib.Seq.{paste};
+ghost use Rattle.cases.specs.Call.{answerNumbers};
 use super::content;
 use super::content::Difference;
 use super::content::NOWHERE;
@@ -33,7 +35,7 @@ const WANTED: usize = 56;
 // Numbers at their place, among zeros.
 fn placed(from: &[u64], at: usize) -> [u64; 58]
     requires { ⌜ at + length (now from) ≤ 58 ⌝ }
-    ensures { λ r. ⌜ 58 ≡ length r ⌝ }
+    ensures { λ r. ⌜ (58 ≡ length r) × (r ≡ paste (replicate 58 0) at (now (from .entry)) (length (now (from .entry)))) ⌝ }
 {
     let mut got = [0u64; 58];
     let mut i = 0;
@@ -44,9 +46,9 @@ fn placed(from: &[u64], at: usize) -> [u64; 58]
     got
 }
 
-// The numbers of what came, and where memory is wrong.
+// The numbers of what came, all of the answer and of its hart, and where memory is wrong.
 fn shown(a: Answer, d: Difference) -> [u64; 58]
-    ensures { λ r. ⌜ 58 ≡ length r ⌝ }
+    ensures { λ r. ⌜ (58 ≡ length r) × (r ≡ answerNumbers a (d .offset) (d .found)) ⌝ }
 {
     let hart = a.hart;
     let rest = state::shown(Came {
@@ -81,7 +83,7 @@ fn called(call: u64, argument: u64, h: Hart, mem: &mut [u8], map: &[u64]) -> Ans
     }
 }
 
-// Whether the call is one, its argument one that it can have, ELP a bit, and the map has room.
+// Whether the call is one, its argument one that it can have, and ELP a bit.
 fn known(n: &[u64; MOST]) -> bool {
     let argument = n[0] == 2 || (n[0] == 1 && n[1] <= 0xffff_ffff) || (n[0] == 0 && n[1] == 0);
     argument && n[37] <= 1
