@@ -21,6 +21,7 @@ use Rattle.csr.proofs.Users.{user-ssp}
 use Rattle.hart.specs.Setters.{withSsp, storedOf, putOf}
 use Rattle.hart.specs.Access.{reachedOf, shownOf, writtenOf, csrReadOf, csrWriteOf}
 use Rattle.hart.specs.Legal.{holds}
+use Rattle.hart.specs.Regime.{controlOf, settingOf}
 use Rattle.hart.specs.declared.Hart.{Hart}
 use Rattle.hart.specs.declared.Csrs.{Csrs}
 use Rattle.hart.proofs.Slots.{slotOf, same, other}
@@ -89,3 +90,9 @@ user-write menvcfg senvcfg address n v h e = rw (user-reaches menvcfg senvcfg ad
 pub user-pointer : (menvcfg senvcfg : ℕ) → reachedOf 0 menvcfg senvcfg 0x011 ≡ pick (sseOf menvcfg && sseOf senvcfg) (To Ssp) Illegal
 unfolding reachedOf modeOf reachOf
 user-pointer menvcfg senvcfg = refl
+
+-- what a step's CSR instruction asks, with the setting of the step, is this
+pub reached-by-a-step : (mode : ℕ) (c : Csrs) (address : ℕ)
+    → reachOf (settingOf mode c .control .mode) (settingOf mode c .permitted) address ≡ reachedOf mode (c .menvcfg) (c .senvcfg) address
+unfolding reachedOf settingOf controlOf
+reached-by-a-step mode c address = refl
