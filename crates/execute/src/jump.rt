@@ -2,9 +2,10 @@
 use super::Effect;
 use address::cause;
 use page::Kind;
+use word::choice;
 use word::sum;
 ghost use mathlib.Core.Path.{_≡_};
-ghost use mathlib.Core.Bool.{_&&_, _||_, not};
+ghost use mathlib.Core.Bool.{_&&_, not};
 ghost use Rattle.word.specs.Sum.{sumOf};
 ghost use Rattle.execute.specs.Jump.{evenOf, needsNoPad, jalOf, jalrOf, branchOf};
 
@@ -22,19 +23,7 @@ pub fn jal(rd: u8, link: u64, target: u64) -> Effect
 fn needs_no_pad(rs1: u8) -> bool
     ensures { λ r. ⌜ r ≡ needsNoPad rs1 ⌝ }
 {
-    any(rs1 == 1, rs1 == 5, rs1 == 7)
-}
-
-fn any(a: bool, b: bool, c: bool) -> bool
-    ensures { λ r. ⌜ r ≡ (a || (b || c)) ⌝ }
-{
-    if a {
-        return true;
-    }
-    if b {
-        return true;
-    }
-    c
+    choice::either(rs1 == 1, choice::either(rs1 == 5, rs1 == 7))
 }
 
 // JALR, of which rs1 is the register's number and a its value: to a with the offset added, and bit 0 cleared.
