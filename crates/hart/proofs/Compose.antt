@@ -1,10 +1,12 @@
 -- Runs compose: a run of a + b steps is a run of a steps and then, where that did not trap, a run of b steps from where it ended.
+-- And a run that does not trap takes every step of its budget.
 -- Assumes nothing.
 use mathlib.Core.Bool.{Bool, true, false}
 use mathlib.Core.List.{List}
-use mathlib.Core.Path.{_≡_, refl, ap, _∙_}
+use mathlib.Core.Path.{_≡_, refl, sym, ap, _∙_}
 use Prim.Native.Nat.{ℕ, zero, suc, _+_}
 use native.Mathlib.Nat.{add-assoc, zero-add, suc-add}
+use native.Mathlib.Omega.{arith}
 use Rattle.execute.specs.declared.Source.{Source}
 use Rattle.execute.specs.declared.Source.the-variants.{Fetch}
 use Rattle.hart.specs.Run.{Run, after, followed, runFrom, runOf}
@@ -59,3 +61,22 @@ pub run-composes-from : (source : Source) (a b : ℕ) (h : Hart) (m map : List �
     → runFrom source (suc a + b) h m map ≡ thenRun (runFrom source (suc a) h m map) b map
 run-composes-from source a b h m map =
     one-more source a b h m map (run-composes a b (stepFrom source h m map .hart) (stepFrom source h m map .memory) map)
+
+-- how many steps a run takes: those of a step and the rest of the run
+counted : (t : Bool) (o : Outcome) (rest : Run) (n : ℕ) → o .trapped ≡ t → (rest .trapped ≡ false → rest .count ≡ n)
+    → followed t o rest .trapped ≡ false → followed t o rest .count ≡ suc n
+counted true o rest n e f h =
+    let z : true ≡ false = sym e ∙ h in
+    cc
+counted false o rest n e f h =
+    let c : rest .count ≡ n = f h in
+    omega (arith, c)
+
+-- a run that does not trap takes every step of its budget
+pub run-count : (n : ℕ) (source : Source) (h : Hart) (m map : List ℕ) → runFrom source n h m map .trapped ≡ false
+    → runFrom source n h m map .count ≡ n
+unfolding runFrom
+run-count zero source h m map e = refl
+run-count (suc n) source h m map e =
+    let o : Outcome = stepFrom source h m map in
+    counted (o .trapped) o (runOf n (o .hart) (o .memory) map) n refl (run-count n Fetch (o .hart) (o .memory) map) e
