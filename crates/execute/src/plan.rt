@@ -11,7 +11,6 @@ use address::place::Place;
 use word::choice;
 use word::sum;
 ghost use mathlib.Core.Path.{_≡_};
-ghost use mathlib.Core.Bool.{_&&_, _||_};
 ghost use Prim.Native.Nat.{_^_, _≤_};
 ghost use lib.ListN.{length};
 ghost use Rattle.execute.specs.Plan.{fetchedOf, isPad, landedOf, effectOf};

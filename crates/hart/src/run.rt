@@ -3,7 +3,6 @@
 // The loop keeps one hart and changes it in place, since each copy of the registers costs more than an instruction; and it is
 // the one place that asks for an effect, so that all of a step is compiled into it. The language has no `&mut` of a struct, so
 // the arms that change the hart stand in the loop.
-use super::Csrs;
 use super::Hart;
 use execute::Effect;
 use execute::Source;

@@ -2,7 +2,6 @@
 // step: the compiler inlines the making of an effect only where it has one caller, and that is the run's loop.
 use super::Hart;
 use super::run;
-use super::run::Ran;
 use csr::Csr;
 use execute::Source;
 use execute::Whole;
