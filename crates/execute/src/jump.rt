@@ -43,11 +43,11 @@ fn even(target: u64) -> u64
     target - target % 2
 }
 
-fn expected(pad: bool, link: bool) -> bool
-    ensures { λ r. ⌜ r ≡ (pad && not link) ⌝ }
+fn expected(pad: bool, exempt: bool) -> bool
+    ensures { λ r. ⌜ r ≡ (pad && not exempt) ⌝ }
 {
     if pad {
-        return !link;
+        return !exempt;
     }
     false
 }
