@@ -48,9 +48,13 @@ canonicalOf t = eqb (t / 2 ^ 39) (t / 2 ^ 38 % 2 * (2 ^ 25 - 1))
 abbrev pub pageNumber : ℕ → ℕ
 pageNumber t = t / 4096 % 2 ^ 27
 
--- the frame number is in bits 53:10 of the leaf word e; the offset in the page is the address's
+-- the frame number is in bits 53:10 of the leaf word e
+abbrev pub frameOf : (e : ℕ) → ℕ
+frameOf e = e / 2 ^ 10 % 2 ^ 44
+
+-- the frame and, in it, the address's offset in its page
 abbrev pub physicalOf : (e t : ℕ) → ℕ
-physicalOf e t = e / 2 ^ 10 % 2 ^ 44 * 4096 + t % 4096
+physicalOf e t = frameOf e * 4096 + t % 4096
 
 -- steps 5 to 8 give a page fault or an access fault, or lead on to step 9
 unfoldable pub settleOf : Verdict → Kind → Width → (len p t : ℕ) → Place

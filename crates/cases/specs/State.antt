@@ -5,9 +5,9 @@ use mathlib.Core.List.{List, [], _∷_, _++_}
 use mathlib.Core.Path.{_≡_}
 use Prim.Native.Nat.{ℕ, _+_, _<_}
 use lib.ListN.{getD, length}
-use Rattle.hart.specs.Setters.{withStvec, withSenvcfg, withSscratch, withSepc, withScause, withStval, withSatp, withMstatus, withMedeleg, withMtvec, withMenvcfg, withMscratch, withMepc, withMcause, withMtval, withMseccfg}
+use Rattle.bank.specs.Setters.{withStvec, withSenvcfg, withSscratch, withSepc, withScause, withStval, withSatp, withMstatus, withMedeleg, withMtvec, withMenvcfg, withMscratch, withMepc, withMcause, withMtval, withMseccfg}
 use Rattle.status.specs.Status.{num}
-use Rattle.hart.specs.declared.Csrs.{Csrs}
+use Rattle.bank.specs.declared.Csrs.{Csrs}
 use Rattle.hart.specs.declared.Hart.{Hart}
 use Rattle.cases.specs.declared.state.Came.{Came}
 

@@ -1,5 +1,5 @@
 // A hart in a line of a file of cases: 52 numbers, which are pc, x0 to x31, mode, elp, ssp, and the CSRs in the
-// order of `hart::Csrs`. Among the given numbers they follow the operation and its two arguments, among the
+// order of `bank::Csrs`. Among the given numbers they follow the operation and its two arguments, among the
 // wanted ones two that tell what came out.
 ghost use mathlib.Core.Path.{_≡_};
 ghost use lib.Dec.{eqb};
@@ -8,7 +8,7 @@ ghost use lib.Seq.{paste};
 ghost use Rattle.status.specs.Status.{num};
 ghost use Rattle.hart.specs.Setters.{startOf};
 ghost use Rattle.cases.specs.State.{Registers, csrsOf, shownOf};
-use hart::Csrs;
+use bank::Csrs;
 use hart::Hart;
 use hart::setters;
 use lines::line::MOST;

@@ -29,22 +29,22 @@ use Rattle.address.specs.declared.place.Place.the-variants.{At, Fault}
 use Rattle.csr.specs.Reach.{reachOf}
 use Rattle.csr.specs.declared.reach.Reached.{Reached}
 use Rattle.csr.specs.declared.reach.Reached.the-variants as reached
-use Rattle.execute.specs.Access.{gateOf, addressOf, readOf, poppedOf, doneOf, atOf, passedOf, accessOf}
-use Rattle.execute.specs.Compute.{conditionOf}
-use Rattle.execute.specs.Csrs.{reachedOf, csrOf}
+use Rattle.effect.specs.Access.{gateOf, addressOf, readOf, poppedOf, doneOf, atOf, passedOf, accessOf}
+use Rattle.effect.specs.Compute.{conditionOf}
+use Rattle.effect.specs.Csrs.{reachedOf, csrOf}
 use Rattle.execute.specs.Instruction.{nextOf, executeOf}
-use Rattle.execute.specs.Jump.{evenOf, jalOf, jalrOf, branchOf}
+use Rattle.effect.specs.Jump.{evenOf, jalOf, jalrOf, branchOf}
 use Rattle.execute.specs.Plan.{fetchedOf, isPad, landedOf, arrivedOf, effectOf}
-use Rattle.execute.specs.Register.{regOf}
-use Rattle.execute.specs.System.{mretOf, sretOf}
-use Rattle.execute.specs.declared.Effect.{Effect}
-use Rattle.execute.specs.declared.Effect.the-variants as effect
-use Rattle.execute.specs.declared.Setting.{Setting}
+use Rattle.effect.specs.Register.{regOf}
+use Rattle.effect.specs.System.{mretOf, sretOf}
+use Rattle.effect.specs.declared.Effect.{Effect}
+use Rattle.effect.specs.declared.Effect.the-variants as effect
+use Rattle.effect.specs.declared.Setting.{Setting}
 use Rattle.execute.specs.declared.Source.{Source}
-use Rattle.execute.specs.declared.Whole.{Whole}
-use Rattle.execute.specs.declared.Whole.the-variants as whole
-use Rattle.execute.specs.declared.access.Gate.{Gate}
-use Rattle.execute.specs.declared.access.Gate.the-variants as gate
+use Rattle.effect.specs.declared.Whole.{Whole}
+use Rattle.effect.specs.declared.Whole.the-variants as whole
+use Rattle.effect.specs.declared.access.Gate.{Gate}
+use Rattle.effect.specs.declared.access.Gate.the-variants as gate
 use Rattle.execute.specs.declared.plan.Fetched.{Fetched}
 use Rattle.execute.specs.declared.plan.Fetched.the-variants as fetched
 

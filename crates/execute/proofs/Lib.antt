@@ -1,4 +1,3 @@
 -- The laws of effects that belong to no one function.
-pub mod Reached
 pub mod Stays
 pub mod Aligned

@@ -27,20 +27,20 @@ use Rattle.address.proofs.Reach.{place-within}
 use Rattle.csr.specs.Reach.{reachOf}
 use Rattle.csr.specs.declared.reach.Reached.{Reached}
 use Rattle.csr.specs.declared.reach.Reached.the-variants as reached
-use Rattle.execute.specs.Access.{Within, gateOf, addressOf, readOf, poppedOf, doneOf, atOf, passedOf, accessOf}
-use Rattle.execute.specs.Compute.{conditionOf}
-use Rattle.execute.specs.Csrs.{reachedOf, csrOf}
-use Rattle.execute.specs.Effect.{Stays}
+use Rattle.effect.specs.Access.{Within, gateOf, addressOf, readOf, poppedOf, doneOf, atOf, passedOf, accessOf}
+use Rattle.effect.specs.Compute.{conditionOf}
+use Rattle.effect.specs.Csrs.{reachedOf, csrOf}
+use Rattle.effect.specs.Effect.{Stays}
 use Rattle.execute.specs.Instruction.{executeOf}
-use Rattle.execute.specs.Jump.{evenOf, jalOf, jalrOf, branchOf}
+use Rattle.effect.specs.Jump.{evenOf, jalOf, jalrOf, branchOf}
 use Rattle.execute.specs.Plan.{fetchedOf, isPad, landedOf, arrivedOf, effectOf}
-use Rattle.execute.specs.Register.{regOf}
-use Rattle.execute.specs.System.{mretOf, sretOf}
-use Rattle.execute.specs.declared.Effect.{Effect}
-use Rattle.execute.specs.declared.Setting.{Setting}
+use Rattle.effect.specs.Register.{regOf}
+use Rattle.effect.specs.System.{mretOf, sretOf}
+use Rattle.effect.specs.declared.Effect.{Effect}
+use Rattle.effect.specs.declared.Setting.{Setting}
 use Rattle.execute.specs.declared.Source.{Source}
-use Rattle.execute.specs.declared.access.Gate.{Gate}
-use Rattle.execute.specs.declared.access.Gate.the-variants as gate
+use Rattle.effect.specs.declared.access.Gate.{Gate}
+use Rattle.effect.specs.declared.access.Gate.the-variants as gate
 use Rattle.execute.specs.declared.plan.Fetched.{Fetched}
 use Rattle.execute.specs.declared.plan.Fetched.the-variants as fetched
 

@@ -8,15 +8,15 @@ use Rattle.word.specs.Sum.{sumOf}
 use Rattle.isa.specs.declared.Instruction.{Instruction}
 use Rattle.isa.specs.declared.Instruction.the-variants.{Illegal, Lui, Auipc, Jal, Jalr, Branch, Memory, OpImm, OpImm32, Op, Op32, Fence, Ecall, Ebreak, Sret, Mret, Csr, ReadSsp, MopR, MopRr}
 use Rattle.csr.specs.Exception.{illegalOf, breakpointOf, callOf}
-use Rattle.execute.specs.Access.{accessOf}
-use Rattle.execute.specs.Compute.{operationOf, wordOperationOf, conditionOf}
-use Rattle.execute.specs.Csrs.{csrOf}
-use Rattle.execute.specs.Jump.{jalOf, jalrOf, branchOf}
-use Rattle.execute.specs.Register.{regOf}
-use Rattle.execute.specs.System.{trapWith, mretOf, sretOf}
-use Rattle.execute.specs.declared.Setting.{Setting}
-use Rattle.execute.specs.declared.Effect.{Effect}
-use Rattle.execute.specs.declared.Effect.the-variants.{Write}
+use Rattle.effect.specs.Access.{accessOf}
+use Rattle.effect.specs.Compute.{operationOf, wordOperationOf, conditionOf}
+use Rattle.effect.specs.Csrs.{csrOf}
+use Rattle.effect.specs.Jump.{jalOf, jalrOf, branchOf}
+use Rattle.effect.specs.Register.{regOf}
+use Rattle.effect.specs.System.{trapWith, mretOf, sretOf}
+use Rattle.effect.specs.declared.Setting.{Setting}
+use Rattle.effect.specs.declared.Effect.{Effect}
+use Rattle.effect.specs.declared.Effect.the-variants.{Write}
 
 -- the instruction after this one
 abbrev pub nextOf : (pc : ℕ) → ℕ

@@ -1,9 +1,2 @@
-pub mod Register
-pub mod Compute
-pub mod Jump
-pub mod System
-pub mod Access
-pub mod Csrs
 pub mod Instruction
 pub mod Plan
-pub mod Effect

@@ -13,16 +13,16 @@ use Rattle.address.specs.Place.{placeOf}
 use Rattle.address.specs.declared.control.Control.{Control}
 use Rattle.address.specs.declared.place.Place.{Place}
 use Rattle.address.specs.declared.place.Place.the-variants as place
-use Rattle.execute.specs.Access.{readOf}
+use Rattle.effect.specs.Access.{readOf}
 use Rattle.execute.specs.Instruction.{nextOf, executeOf}
-use Rattle.execute.specs.Register.{regOf}
-use Rattle.execute.specs.declared.Setting.{Setting}
+use Rattle.effect.specs.Register.{regOf}
+use Rattle.effect.specs.declared.Setting.{Setting}
 use Rattle.execute.specs.declared.Source.{Source}
 use Rattle.execute.specs.declared.Source.the-variants as source
 use Rattle.execute.specs.declared.plan.Fetched.{Fetched}
 use Rattle.execute.specs.declared.plan.Fetched.the-variants as fetched
-use Rattle.execute.specs.declared.Effect.{Effect}
-use Rattle.execute.specs.declared.Effect.the-variants.{Pad, Trap}
+use Rattle.effect.specs.declared.Effect.{Effect}
+use Rattle.effect.specs.declared.Effect.the-variants.{Pad, Trap}
 
 -- the four bytes at a place, or the fetch fault
 abbrev pub wordAt : Place → (m : List ℕ) → Fetched

@@ -1,12 +1,12 @@
 // One instruction's effect.
-use super::Effect;
-use super::Setting;
-use super::access;
-use super::compute;
-use super::csrs;
-use super::jump;
-use super::register::reg;
-use super::system;
+use effect::Effect;
+use effect::Setting;
+use effect::access;
+use effect::compute;
+use effect::csrs;
+use effect::jump;
+use effect::register::reg;
+use effect::system;
 use isa::Condition;
 use isa::Instruction;
 use isa::Operation;
@@ -16,10 +16,10 @@ ghost use mathlib.Core.Path.{_≡_};
 ghost use Prim.Native.Nat.{_^_, _≤_};
 ghost use lib.ListN.{length};
 ghost use Rattle.word.specs.Sum.{sumOf};
-ghost use Rattle.execute.specs.Compute.{operationOf, wordOperationOf, conditionOf};
-ghost use Rattle.execute.specs.Jump.{branchOf};
+ghost use Rattle.effect.specs.Compute.{operationOf, wordOperationOf, conditionOf};
+ghost use Rattle.effect.specs.Jump.{branchOf};
 ghost use Rattle.execute.specs.Instruction.{shownOf, executeOf};
-ghost use Rattle.execute.specs.declared.Effect.the-variants.{Write};
+ghost use Rattle.effect.specs.declared.Effect.the-variants.{Write};
 
 // A read of ssp, by the active shadow enable.
 fn shown(on: bool, ssp: u64) -> u64

@@ -1,13 +1,13 @@
 // A step's effect, in document 01's order: fetch faults, then the landing pad check, then decoding, then the instruction.
-use super::Effect;
-use super::Setting;
 use super::Source;
 use super::instruction;
-use super::register::reg;
 use address::Virtual;
 use address::control::Control;
 use address::place;
 use address::place::Place;
+use effect::Effect;
+use effect::Setting;
+use effect::register::reg;
 use word::choice;
 use word::sum;
 ghost use mathlib.Core.Path.{_≡_};

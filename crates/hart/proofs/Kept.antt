@@ -10,7 +10,8 @@ use Rattle.status.specs.Mode.{modeOf}
 use Rattle.status.specs.Status.{statusOf}
 use Rattle.status.specs.declared.Status.{Status}
 use Rattle.status.proofs.Packed.{enter-m-fields, enter-s-fields, leave-m-fields, leave-s-fields}
-use Rattle.hart.specs.Trap.{toS, delegatedOf, trapM, trapS, trapOf}
+use Rattle.bank.specs.Trap.{toS, delegatedOf}
+use Rattle.hart.specs.Trap.{trapM, trapS, trapOf}
 use Rattle.hart.specs.Return.{mretOf, sretOf}
 use Rattle.hart.specs.declared.Hart.{Hart}
 

@@ -24,14 +24,18 @@ use Rattle.csr.specs.declared.Csr.the-variants.{Ssp, Sstatus, Stvec, Senvcfg, S
 use Rattle.word.proofs.Rows.{left, kept, each}
 use Rattle.csr.proofs.Made.{all-fit, all-seen, sixty-four, alike}
 use Rattle.status.proofs.Packed.{enter-m-legal, enter-s-legal, leave-m-legal, leave-s-legal}
-use Rattle.hart.specs.Setters.{withSsp, startOf, storedOf, putOf, pointerOf}
-use Rattle.hart.specs.Access.{writtenOf, csrWriteOf}
-use Rattle.hart.specs.Legal.{holds, csrsLegal, isMode, legal}
-use Rattle.hart.specs.Trap.{toS, delegatedOf, trapM, trapS, trapOf}
+use Rattle.bank.specs.Setters.{storedOf, putOf, pointerOf}
+use Rattle.hart.specs.Setters.{withSsp, startOf}
+use Rattle.bank.specs.Access.{writtenOf}
+use Rattle.hart.specs.Access.{csrWriteOf}
+use Rattle.bank.specs.Legal.{holds, csrsLegal, isMode}
+use Rattle.hart.specs.Legal.{legal}
+use Rattle.bank.specs.Trap.{toS, delegatedOf}
+use Rattle.hart.specs.Trap.{trapM, trapS, trapOf}
 use Rattle.hart.specs.Return.{mretOf, sretOf}
 use Rattle.hart.specs.declared.Hart.{Hart}
-use Rattle.hart.specs.declared.Csrs.{Csrs}
-use Rattle.hart.proofs.Slots.{slotOf, same, other}
+use Rattle.bank.specs.declared.Csrs.{Csrs}
+use Rattle.bank.proofs.Slots.{slotOf, same, other}
 
 -- every CSR holds a word that it can hold
 abbrev pub Held : (ssp : ℕ) → Csrs → Type 0

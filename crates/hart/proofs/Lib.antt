@@ -1,4 +1,3 @@
-pub mod Slots
 pub mod Lawful
 pub mod Written
 pub mod Kept

@@ -7,10 +7,10 @@ use mathlib.Core.Path.{_≡_}
 use Prim.Native.Nat.{ℕ}
 use Rattle.isa.proofs.Examples.{row-5, row-8, row-9}
 use Rattle.execute.specs.Instruction.{nextOf, executeOf}
-use Rattle.execute.specs.Jump.{jalrOf}
+use Rattle.effect.specs.Jump.{jalrOf}
 use Rattle.execute.specs.Plan.{fetchedOf, landedOf, arrivedOf, effectOf}
-use Rattle.execute.specs.Register.{regOf}
-use Rattle.hart.specs.Regime.{shadowOn, padOn, settingOf}
+use Rattle.effect.specs.Register.{regOf}
+use Rattle.bank.specs.Regime.{shadowOn, padOn, settingOf}
 use Rattle.hart.specs.Setters.{withPc, withElp}
 use Rattle.hart.specs.Step.{Outcome, withReg, stepFrom, stepWordOf}
 use Rattle.hart.specs.Trap.{trapOf}

@@ -18,19 +18,19 @@ use Rattle.address.specs.declared.Physical.{Physical}
 use Rattle.csr.specs.declared.Csr.{Csr}
 use Rattle.execute.proofs.Aligned.{WholeAligned, Aligned, effect-aligned}
 use Rattle.execute.proofs.Stays.{effect-stays}
-use Rattle.execute.specs.Access.{Within}
-use Rattle.execute.specs.Csrs.{mergedOf}
-use Rattle.execute.specs.Effect.{Stays}
-use Rattle.execute.specs.declared.Effect.{Effect}
-use Rattle.execute.specs.declared.Effect.the-variants.{Write, Jump, Pad, Store, Push, Pop, Swap, Trap}
-use Rattle.execute.specs.declared.Effect.the-variants as effect
+use Rattle.effect.specs.Access.{Within}
+use Rattle.effect.specs.Csrs.{mergedOf}
+use Rattle.effect.specs.Effect.{Stays}
+use Rattle.effect.specs.declared.Effect.{Effect}
+use Rattle.effect.specs.declared.Effect.the-variants.{Write, Jump, Pad, Store, Push, Pop, Swap, Trap}
+use Rattle.effect.specs.declared.Effect.the-variants as effect
 use Rattle.execute.specs.declared.Source.{Source}
 use Rattle.execute.specs.declared.Source.the-variants.{Fetch}
-use Rattle.execute.specs.declared.Whole.{Whole}
-use Rattle.execute.specs.declared.Whole.the-variants as whole
+use Rattle.effect.specs.declared.Whole.{Whole}
+use Rattle.effect.specs.declared.Whole.the-variants as whole
 use Rattle.hart.specs.Access.{csrReadOf, csrWriteOf}
 use Rattle.hart.specs.Legal.{legal}
-use Rattle.hart.specs.Regime.{settingOf}
+use Rattle.bank.specs.Regime.{settingOf}
 use Rattle.hart.specs.Run.{Run, followed, runFrom}
 use Rattle.hart.specs.Setters.{withPc, withElp, withSsp}
 use Rattle.hart.specs.Step.{Outcome, withReg, changedOf, csrOf, wholeOf, applyOf, memoryOf, planOf, stepFrom}

@@ -6,8 +6,8 @@ use mathlib.Core.Path.{_≡_, refl, ap, _∙_}
 use Prim.Native.Nat.{ℕ, suc, _+_, _-_, _<_, _≤_}
 use native.Mathlib.Nat.{add-assoc}
 use native.Mathlib.Omega.{arith}
-use Rattle.execute.specs.declared.Effect.{Effect}
-use Rattle.execute.specs.declared.Effect.the-variants.{Write, Jump, Pad, Store, Push, Pop, Swap, Whole, Trap}
+use Rattle.effect.specs.declared.Effect.{Effect}
+use Rattle.effect.specs.declared.Effect.the-variants.{Write, Jump, Pad, Store, Push, Pop, Swap, Whole, Trap}
 use Rattle.execute.specs.declared.Source.{Source}
 use Rattle.execute.specs.declared.Source.the-variants.{Fetch}
 use Rattle.hart.specs.Run.{Run, after, stayed, once, followed, runFrom}

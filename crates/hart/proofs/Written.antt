@@ -18,13 +18,15 @@ use Rattle.csr.specs.declared.reach.Reached.the-variants.{To, Illegal}
 use Rattle.word.proofs.Rows.{backOf, back, shown}
 use Rattle.csr.proofs.Made.{all-fit, sixty-four, alike}
 use Rattle.csr.proofs.Users.{user-ssp}
-use Rattle.hart.specs.Setters.{withSsp, storedOf, putOf}
-use Rattle.hart.specs.Access.{reachedOf, shownOf, writtenOf, csrReadOf, csrWriteOf}
-use Rattle.hart.specs.Legal.{holds}
-use Rattle.hart.specs.Regime.{controlOf, settingOf}
+use Rattle.bank.specs.Setters.{storedOf, putOf}
+use Rattle.hart.specs.Setters.{withSsp}
+use Rattle.bank.specs.Access.{reachedOf, shownOf, writtenOf}
+use Rattle.hart.specs.Access.{csrReadOf, csrWriteOf}
+use Rattle.bank.specs.Legal.{holds}
+use Rattle.bank.specs.Regime.{controlOf, settingOf}
 use Rattle.hart.specs.declared.Hart.{Hart}
-use Rattle.hart.specs.declared.Csrs.{Csrs}
-use Rattle.hart.proofs.Slots.{slotOf, same, other}
+use Rattle.bank.specs.declared.Csrs.{Csrs}
+use Rattle.bank.proofs.Slots.{slotOf, same, other}
 use Rattle.hart.proofs.Lawful.{left-by-write}
 
 -- a write does not change the row of its own CSR: menvcfg's is always the same, and no other changes menvcfg.SSE

@@ -1,27 +1,10 @@
--- Which CSR of the hart an address names, and reading and writing it.
+-- Reading and writing a CSR of the hart.
 use Prim.Native.Nat.{ℕ}
 use Rattle.csr.specs.declared.Csr.{Csr}
-use Rattle.word.specs.Row.{writeOf, readOf}
-use Rattle.csr.specs.Row.{rowOf}
-use Rattle.csr.specs.Enable.{sseOf, permitsOf}
-use Rattle.csr.specs.Reach.{reachOf}
-use Rattle.csr.specs.declared.reach.Reached.{Reached}
-use Rattle.status.specs.Mode.{modeOf}
-use Rattle.hart.specs.Setters.{withSsp, withCsrs, storedOf, putOf, pointerOf}
+use Rattle.bank.specs.Access.{shownOf, writtenOf}
+use Rattle.bank.specs.Setters.{putOf, pointerOf}
+use Rattle.hart.specs.Setters.{withSsp, withCsrs}
 use Rattle.hart.specs.declared.Hart.{Hart}
-use Rattle.hart.specs.declared.Csrs.{Csrs}
-
--- the CSR that an address names, or illegal, in a mode with these menvcfg and senvcfg
-unfoldable pub reachedOf : (mode menvcfg senvcfg address : ℕ) → Reached
-reachedOf mode menvcfg senvcfg address = reachOf (modeOf mode) (permitsOf (modeOf mode) menvcfg senvcfg) address
-
--- what a read of CSR n shows
-unfoldable pub shownOf : Csr → (ssp : ℕ) → Csrs → ℕ
-shownOf n ssp c = readOf (rowOf n (sseOf (c .menvcfg))) (storedOf n ssp c)
-
--- the word that a write of v to CSR n leaves
-unfoldable pub writtenOf : Csr → (v ssp : ℕ) → Csrs → ℕ
-writtenOf n v ssp c = writeOf (rowOf n (sseOf (c .menvcfg))) (storedOf n ssp c) v
 
 abbrev pub csrReadOf : Csr → Hart → ℕ
 csrReadOf n h = shownOf n (h .ssp) (h .csrs)

@@ -1,38 +1,10 @@
 -- Refusal 1: the harts that a call takes.
-use mathlib.Core.Bool.{Bool, true, _&&_, _||_}
-use Prim.Native.Nat.{ℕ, _%_}
+use mathlib.Core.Bool.{Bool, _&&_}
+use Prim.Native.Nat.{_%_}
 use lib.Dec.{eqb}
 use lib.ListN.{getD}
-use Rattle.word.specs.Row.{legalOf}
-use Rattle.csr.specs.Row.{rowOf}
-use Rattle.csr.specs.declared.Csr.{Csr}
-use Rattle.csr.specs.declared.Csr.the-variants.{Stvec, Senvcfg, Sscratch, Sepc, Scause, Stval, Satp, Mstatus, Medeleg, Mtvec, Menvcfg, Mscratch, Mepc, Mcause, Mtval, Mseccfg}
+use Rattle.bank.specs.Legal.{csrsLegal, isMode}
 use Rattle.hart.specs.declared.Hart.{Hart}
-use Rattle.hart.specs.declared.Csrs.{Csrs}
-
--- CSR n can hold the word m: some write leaves it (while menvcfg.SSE is 1, which writes every field)
-abbrev pub holds : Csr → ℕ → Bool
-holds n m = legalOf (rowOf n true) m
-
-abbrev pub machineLegal : Csrs → Bool
-machineLegal c =
-    holds Mstatus (c .mstatus)
-    && (holds Medeleg (c .medeleg)
-    && (holds Mtvec (c .mtvec)
-    && (holds Menvcfg (c .menvcfg)
-    && (holds Mscratch (c .mscratch)
-    && (holds Mepc (c .mepc) && (holds Mcause (c .mcause) && (holds Mtval (c .mtval) && holds Mseccfg (c .mseccfg))))))))
-
-unfoldable pub csrsLegal : Csrs → Bool
-csrsLegal c =
-    holds Stvec (c .stvec)
-    && (holds Senvcfg (c .senvcfg)
-    && (holds Sscratch (c .sscratch)
-    && (holds Sepc (c .sepc) && (holds Scause (c .scause) && (holds Stval (c .stval) && (holds Satp (c .satp) && machineLegal c))))))
-
--- the mode is 0, 1 or 3
-abbrev pub isMode : ℕ → Bool
-isMode m = eqb m 0 || (eqb m 1 || eqb m 3)
 
 -- register 0 is 0; pc is a multiple of 4; the mode is 0, 1 or 3; ssp is a multiple of 8; and each CSR holds a value that a
 -- write could leave

@@ -1,16 +1,12 @@
 -- MRET and SRET.
-use mathlib.Core.Bool.{Bool, _&&_}
+use mathlib.Core.Bool.{Bool}
 use Rattle.page.specs.declared.Mode.{Mode}
 use Rattle.status.specs.Mode.{numberOf}
 use Rattle.status.specs.Status.{statusOf, leaveM, leaveS, mppMode, sppMode}
-use Rattle.csr.specs.Enable.{padOf}
-use Rattle.hart.specs.Setters.{withPc, withMode, withElp, withCsrs, withMstatus}
+use Rattle.bank.specs.Return.{elpAfter}
+use Rattle.bank.specs.Setters.{withMstatus}
+use Rattle.hart.specs.Setters.{withPc, withMode, withElp, withCsrs}
 use Rattle.hart.specs.declared.Hart.{Hart}
-use Rattle.hart.specs.declared.Csrs.{Csrs}
-
--- the saved ELP if the new mode's pad enable is set, else 0
-abbrev pub elpAfter : Csrs → (new : Mode) → (saved : Bool) → Bool
-elpAfter c new saved = padOf new (c .menvcfg) (c .senvcfg) (c .mseccfg) && saved
 
 -- in the new mode
 abbrev pub backIn : Hart → (new : Mode) → (saved : Bool) → Hart

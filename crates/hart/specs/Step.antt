@@ -11,18 +11,18 @@ use Rattle.isa.specs.declared.Width.the-variants.{Double}
 use Rattle.memory.specs.Bytes.{storeOf}
 use Rattle.address.specs.Place.{base}
 use Rattle.csr.specs.declared.Csr.{Csr}
-use Rattle.execute.specs.Csrs.{mergedOf}
+use Rattle.effect.specs.Csrs.{mergedOf}
 use Rattle.execute.specs.Plan.{effectOf}
-use Rattle.execute.specs.Register.{putOf}
-use Rattle.execute.specs.declared.Effect.{Effect}
-use Rattle.execute.specs.declared.Effect.the-variants.{Write, Jump, Pad, Store, Push, Pop, Swap, Trap}
-use Rattle.execute.specs.declared.Effect.the-variants as effect
+use Rattle.effect.specs.Register.{putOf}
+use Rattle.effect.specs.declared.Effect.{Effect}
+use Rattle.effect.specs.declared.Effect.the-variants.{Write, Jump, Pad, Store, Push, Pop, Swap, Trap}
+use Rattle.effect.specs.declared.Effect.the-variants as effect
 use Rattle.execute.specs.declared.Source.{Source}
 use Rattle.execute.specs.declared.Source.the-variants.{Fetch, Given}
-use Rattle.execute.specs.declared.Whole.{Whole}
-use Rattle.execute.specs.declared.Whole.the-variants as whole
+use Rattle.effect.specs.declared.Whole.{Whole}
+use Rattle.effect.specs.declared.Whole.the-variants as whole
 use Rattle.hart.specs.Access.{csrReadOf, csrWriteOf}
-use Rattle.hart.specs.Regime.{settingOf}
+use Rattle.bank.specs.Regime.{settingOf}
 use Rattle.hart.specs.Return.{mretOf, sretOf}
 use Rattle.hart.specs.Setters.{withPc, withX, withElp, withSsp}
 use Rattle.hart.specs.Trap.{trapOf}

@@ -1,74 +1,8 @@
 // Refusal 1: the harts that a call takes.
-use super::Csrs;
 use super::Hart;
-use csr::legal;
-use word::choice;
+use bank::legal;
 ghost use mathlib.Core.Path.{_≡_};
-ghost use mathlib.Core.Bool.{_&&_, _||_};
-ghost use Rattle.hart.specs.Legal.{isMode, machineLegal, csrsLegal, legal};
-
-fn all(a: bool, b: bool, c: bool, d: bool, e: bool) -> bool
-    ensures { λ r. ⌜ r ≡ (a && (b && (c && (d && e)))) ⌝ }
-{
-    if a {
-        if b {
-            if c {
-                if d {
-                    return e;
-                }
-                return false;
-            }
-            return false;
-        }
-        return false;
-    }
-    false
-}
-
-fn any(a: bool, b: bool, c: bool) -> bool
-    ensures { λ r. ⌜ r ≡ (a || (b || c)) ⌝ }
-{
-    if a {
-        return true;
-    }
-    if b {
-        return true;
-    }
-    c
-}
-
-fn is_mode(m: u64) -> bool
-    ensures { λ r. ⌜ r ≡ isMode m ⌝ }
-{
-    any(m == 0, m == 1, m == 3)
-}
-
-impl Csrs {
-    fn machine_legal(self) -> bool
-        ensures { λ r. ⌜ r ≡ machineLegal self ⌝ }
-    {
-        all(
-            legal::mstatus(self.mstatus),
-            legal::medeleg(self.medeleg),
-            legal::fours(self.mtvec),
-            legal::envcfg(self.menvcfg),
-            choice::both(legal::fours(self.mepc), legal::mseccfg(self.mseccfg)),
-        )
-    }
-
-    // Whether each CSR holds a value that a write could leave. Scratch, cause and tval hold any.
-    pub fn legal(self) -> bool
-        ensures { λ r. ⌜ r ≡ csrsLegal self ⌝ }
-    {
-        all(
-            legal::fours(self.stvec),
-            legal::envcfg(self.senvcfg),
-            legal::fours(self.sepc),
-            legal::satp(self.satp),
-            self.machine_legal(),
-        )
-    }
-}
+ghost use Rattle.hart.specs.Legal.{legal};
 
 impl Hart {
     // Whether refusal 1 lets the hart pass.
@@ -76,10 +10,10 @@ impl Hart {
         ensures { λ r. ⌜ r ≡ legal self ⌝ }
     {
         let c = self.csrs;
-        all(
+        legal::all(
             self.x[0] == 0,
             self.pc % 4 == 0,
-            is_mode(self.mode),
+            legal::is_mode(self.mode),
             self.ssp % 8 == 0,
             c.legal(),
         )

@@ -1,23 +1,10 @@
 // MRET and SRET.
-use super::Csrs;
 use super::Hart;
-use csr::enable;
 use page::Mode;
 use status::mode;
 use status::returns;
-use word::choice;
 ghost use mathlib.Core.Path.{_≡_};
-ghost use Rattle.hart.specs.Return.{elpAfter, backIn, mretOf, sretOf};
-
-impl Csrs {
-    // ELP after a return: the saved one if the new mode's pad enable is set, else 0.
-    fn elp_after(self, new: Mode, saved: bool) -> bool
-        ensures { λ r. ⌜ r ≡ elpAfter self new saved ⌝ }
-    {
-        let on = enable::pad(new, self.menvcfg, self.senvcfg, self.mseccfg);
-        choice::both(on, saved)
-    }
-}
+ghost use Rattle.hart.specs.Return.{backIn, mretOf, sretOf};
 
 impl Hart {
     // In mode `new`, with the saved ELP where it counts.

@@ -4,15 +4,15 @@
 // the one place that asks for an effect, so that all of a step is compiled into it. The language has no `&mut` of a struct, so
 // the arms that change the hart stand in the loop.
 use super::Hart;
-use execute::Effect;
+use effect::Effect;
+use effect::register;
 use execute::Source;
 use execute::plan;
-use execute::register;
 use isa::Width;
 ghost use mathlib.Core.Path.{_≡_};
 ghost use Prim.Native.Nat.{_^_, _≤_};
 ghost use lib.ListN.{length};
-ghost use Rattle.execute.specs.Effect.{Stays};
+ghost use Rattle.effect.specs.Effect.{Stays};
 ghost use Rattle.hart.specs.Step.{memoryOf};
 ghost use Rattle.hart.specs.Run.{runFrom, ranOf};
 

@@ -3,10 +3,10 @@
 use super::Hart;
 use super::run;
 use csr::Csr;
+use effect::Whole;
+use effect::csrs;
+use effect::register;
 use execute::Source;
-use execute::Whole;
-use execute::csrs;
-use execute::register;
 use isa::CsrOperation;
 ghost use mathlib.Core.Path.{_≡_};
 ghost use Prim.Native.Nat.{_^_, _≤_};

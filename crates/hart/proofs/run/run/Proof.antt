@@ -6,9 +6,9 @@ use Prim.Native.Nat.{_-_}
 use lib.ListN.{length}
 use native.Mathlib.Omega.{arith}
 use Rattle.execute.proofs.Stays.{effect-stays}
-use Rattle.execute.specs.declared.Effect.{Effect}
+use Rattle.effect.specs.declared.Effect.{Effect}
 use Rattle.execute.specs.declared.Source.the-variants.{Fetch}
-use Rattle.hart.specs.Regime.{settingOf}
+use Rattle.bank.specs.Regime.{settingOf}
 use Rattle.hart.specs.Run.{runFrom}
 use Rattle.hart.specs.Step.{applyOf, trapsOf, planOf}
 use Rattle.hart.proofs.Turns.{Midway, start, again, ended, spent}

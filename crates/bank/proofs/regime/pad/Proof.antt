@@ -1,0 +1,12 @@
+-- `bank::regime::pad` meets its contract. Assumes nothing.
+use Rattle.bank.specs.Regime.{padOn}
+use borrow.Author.Needs.{needs}
+use Rattle.bank.proofs.regime.pad.Statement.{statement}
+use Rattle.bank.proofs.regime.pad.Tie as tie
+
+returns : tie.Need-returns
+unfolding padOn
+returns c = rw (c .pad .ensures, c .before .mode .ensures)
+
+pub pad-spec : {M : Type 1} → statement M
+pad-spec = tie.close (tie.spec (λ c κs. search needs) (λ c κs. search needs) returns)

@@ -1,0 +1,12 @@
+-- `bank::regime::shadow` meets its contract. Assumes nothing.
+use Rattle.bank.specs.Regime.{shadowOn}
+use borrow.Author.Needs.{needs}
+use Rattle.bank.proofs.regime.shadow.Statement.{statement}
+use Rattle.bank.proofs.regime.shadow.Tie as tie
+
+returns : tie.Need-returns
+unfolding shadowOn
+returns c = rw (c .shadow .ensures, c .before .mode .ensures)
+
+pub shadow-spec : {M : Type 1} → statement M
+shadow-spec = tie.close (tie.spec (λ c κs. search needs) (λ c κs. search needs) returns)

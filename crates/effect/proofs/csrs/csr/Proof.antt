@@ -1,0 +1,28 @@
+-- `effect::csrs::csr` meets its contract: by what the address reaches. Assumes nothing.
+use mathlib.Core.Path.{sym, _∙_}
+use Rattle.effect.specs.Csrs.{csrOf, reachedOf}
+use borrow.Author.Needs.{needs}
+use Rattle.effect.proofs.csrs.csr.Statement.{statement}
+use Rattle.effect.proofs.csrs.csr.Tie as tie
+
+returns : tie.Need-returns
+unfolding csrOf reachedOf
+returns c = rw (c .operand .ensures, c .before .writes .ensures, c .before .before .field .ensures, sym (c .before .before .before .before .before .before .reach .ensures) ∙ c .before .before .before .before .n .given .1)
+
+returns-2 : tie.Need-returns-2
+unfolding csrOf reachedOf
+returns-2 c = rw (c .illegal .ensures, sym (c .before .before .before .reach .ensures) ∙ c .before .enum-told .given .1)
+
+pub csr-spec : {M : Type 1} → statement M
+csr-spec =
+    tie.close
+    (tie.spec
+    (λ c κs. search needs)
+    (λ c. search needs)
+    (λ c κs. search needs)
+    (λ c κs. search needs)
+    (λ c κs. search needs)
+    (λ c. search needs)
+    (λ c κs. search needs)
+    returns
+    returns-2)

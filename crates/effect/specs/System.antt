@@ -1,0 +1,24 @@
+-- MRET, SRET and the exceptions that an instruction makes by itself.
+use Prim.Native.Nat.{ℕ}
+use Rattle.page.specs.declared.Mode.{Mode}
+use Rattle.page.specs.declared.Mode.the-variants.{User, Supervisor, Machine}
+use Rattle.csr.specs.Exception.{illegalOf}
+use Rattle.csr.specs.declared.exception.Exception.{Exception}
+use Rattle.effect.specs.declared.Effect.{Effect}
+use Rattle.effect.specs.declared.Effect.the-variants.{Whole, Trap}
+use Rattle.effect.specs.declared.Whole.the-variants.{Mret, Sret}
+
+abbrev pub trapWith : Exception → Effect
+trapWith e = Trap (e .cause) (e .tval)
+
+-- MRET is illegal below M
+abbrev pub mretOf : Mode → (word : ℕ) → Effect
+mretOf User word = trapWith (illegalOf word)
+mretOf Supervisor word = trapWith (illegalOf word)
+mretOf Machine word = Whole Mret
+
+-- SRET is illegal in U
+abbrev pub sretOf : Mode → (word : ℕ) → Effect
+sretOf User word = trapWith (illegalOf word)
+sretOf Supervisor word = Whole Sret
+sretOf Machine word = Whole Sret

@@ -1,0 +1,58 @@
+// What an instruction changes: a small value, the effect, which the hart applies; and what each family of instructions does, from its
+// operands' values. Nothing here knows a hart, and nothing here changes anything but `register::put`, which writes a lent array.
+use address::Physical;
+use address::control::Control;
+use csr::Csr;
+use isa::CsrOperation;
+use isa::Width;
+
+// What OP, OP-IMM and their word forms compute, and when a branch is taken.
+pub mod compute;
+// The registers by number.
+pub mod register;
+// JAL, JALR and branches.
+pub mod jump;
+// Loads, stores and the shadow stack.
+pub mod access;
+// The CSR instructions.
+pub mod csrs;
+// MRET, SRET, ECALL, EBREAK and illegal instructions.
+pub mod system;
+
+// What a hart's mode and CSRs say about an instruction, beside its accesses: the active shadow enable, whether ssp
+// may be touched as a CSR (and the swap is legal), and the pad enable.
+pub struct Setting {
+    pub control: Control,
+    pub shadow: bool,
+    pub permitted: bool,
+    pub pad: bool,
+}
+
+// What an instruction changes. `next` is pc after it.
+pub enum Effect {
+    // rd, value, next
+    Write(u8, u64, u64),
+    // rd, link, next, whether a landing pad is expected: JALR
+    Jump(u8, u64, u64, bool),
+    // next: a landing pad that was expected
+    Pad(u64),
+    // place, width, value, next
+    Store(Physical, Width, u64, u64),
+    // place, value, ssp after it, next
+    Push(Physical, u64, u64, u64),
+    // ssp after it, next
+    Pop(u64, u64),
+    // rd, its value, place, width, value to store, next
+    Swap(u8, u64, Physical, Width, u64, u64),
+    Whole(Whole),
+    // cause, tval
+    Trap(u64, u64),
+}
+
+// What changes more of a hart than registers, pc, ELP and ssp.
+pub enum Whole {
+    // operation, CSR, whether it writes, operand, rd, next
+    Csr(CsrOperation, Csr, bool, u64, u8, u64),
+    Mret,
+    Sret,
+}

@@ -1,0 +1,55 @@
+// MRET, SRET, ECALL, EBREAK and illegal instructions.
+use super::Effect;
+use super::Whole;
+use csr::exception;
+use csr::exception::Exception;
+use page::Mode;
+ghost use mathlib.Core.Path.{_≡_};
+ghost use Rattle.csr.specs.Exception.{illegalOf, breakpointOf, callOf};
+ghost use Rattle.effect.specs.System.{trapWith, mretOf, sretOf};
+
+fn trap(e: Exception) -> Effect
+    ensures { λ r. ⌜ r ≡ trapWith e ⌝ }
+{
+    Effect::Trap(e.cause, e.tval)
+}
+
+pub fn illegal(word: u32) -> Effect
+    ensures { λ r. ⌜ r ≡ trapWith (illegalOf word) ⌝ }
+{
+    trap(exception::illegal(word))
+}
+
+pub fn ebreak(pc: u64) -> Effect
+    ensures { λ r. ⌜ r ≡ trapWith (breakpointOf pc) ⌝ }
+{
+    trap(exception::breakpoint(pc))
+}
+
+pub fn ecall(m: Mode) -> Effect
+    ensures { λ r. ⌜ r ≡ trapWith (callOf m) ⌝ }
+{
+    trap(exception::call(m))
+}
+
+// Illegal below M.
+pub fn mret(m: Mode, word: u32) -> Effect
+    ensures { λ r. ⌜ r ≡ mretOf m word ⌝ }
+{
+    match m {
+        Mode::User => illegal(word),
+        Mode::Supervisor => illegal(word),
+        Mode::Machine => Effect::Whole(Whole::Mret),
+    }
+}
+
+// Illegal in U.
+pub fn sret(m: Mode, word: u32) -> Effect
+    ensures { λ r. ⌜ r ≡ sretOf m word ⌝ }
+{
+    match m {
+        Mode::User => illegal(word),
+        Mode::Supervisor => Effect::Whole(Whole::Sret),
+        Mode::Machine => Effect::Whole(Whole::Sret),
+    }
+}

@@ -1,0 +1,121 @@
+-- Demand 3, proved: each stretch keeps its promise. `promised` asks for less than the user's words give (`Enough`): of an accepted state only
+-- that ssp is a multiple of 8; and not menvcfg's enable, since a pop-check whose access is permitted is one to a shadow page, and
+-- without that enable there is none.
+-- Assumes nothing.
+use mathlib.Core.Bool.{Bool, true, false, true≢false}
+use mathlib.Core.List.{List}
+use mathlib.Core.Logic.{_↔_}
+use mathlib.Core.Path.{_≡_, refl, sym, ap, _∙_}
+use Prim.Native.Nat.{ℕ, _/_, _%_, _^_}
+use lib.Dec.{eqb}
+use lib.ListN.{getD, length}
+use native.Mathlib.Omega.{arith}
+use borrow.Author.Tests.{eqb-true, eqb-false, eq-eqb, not-false}
+use Rattle.word.proofs.Bools.{both}
+use Rattle.word.specs.Choice.{pick}
+use Rattle.word.specs.Sum.{sumOf}
+use Rattle.isa.specs.declared.Width.the-variants.{Double}
+use Rattle.page.specs.declared.Kind.the-variants as kind
+use Rattle.address.proofs.Reach.{place-paged, shadow-paged, shadow-on-shadow}
+use Rattle.address.specs.declared.Physical.{Physical}
+use Rattle.address.specs.declared.control.Control.{Control}
+use Rattle.csr.specs.Enable.{sseOf}
+use Rattle.status.specs.Mode.{modeOf}
+use Rattle.effect.specs.Access.{readOf, poppedOf}
+use Rattle.execute.specs.Instruction.{nextOf}
+use Rattle.effect.specs.declared.Effect.the-variants.{Pop, Trap}
+use Rattle.execute.specs.declared.Source.{Source}
+use Rattle.hart.proofs.Lawful.{lawful, ssp-eight}
+use Rattle.hart.specs.Legal.{legal}
+use Rattle.bank.specs.Regime.{controlOf, shadowOn, settingOf}
+use Rattle.hart.specs.Step.{trapsOf, stepFrom}
+use Rattle.hart.specs.declared.Hart.{Hart}
+use Rattle.machine.proofs.Accepted.{no-refusal}
+use Rattle.shadow.specs.Promise.{inForce, StandsOnce, Starts, Event, Stretch, start, step, Shadow, unmatched, PopCheck, Permitted, matchOf, Promise, Claim}
+use Rattle.shadow.proofs.Geometry.{Geometry}
+use Rattle.shadow.proofs.Invariant.{inv-start}
+use Rattle.shadow.proofs.Slots.{geometry}
+use Rattle.shadow.proofs.Steps.{slot, Same, as-at-start, Holds, in-user, step-left}
+use Rattle.shadow.proofs.Ties.{check-does}
+
+-- what is enough for the proof
+pub record Enough (map : List ℕ) (h₀ : Hart) (m₀ : List ℕ) : Type 0 where
+  pub eight : h₀ .ssp % 8 ≡ 0
+  pub user : h₀ .mode ≡ 0
+  pub sv39 : inForce h₀ .sv39 ≡ true
+  pub senvcfg : sseOf (h₀ .csrs .senvcfg) ≡ true
+  pub once : StandsOnce (inForce h₀) map
+
+-- a pop-check's effect is a trap exactly where the two values differ
+traps-where : (top v ssp pc : ℕ) → (trapsOf (poppedOf top v ssp pc) ≡ true) ↔ (v ≡ top → ⊥)
+unfolding poppedOf
+traps-where top v ssp pc = go (eqb top v) refl
+  where
+    go : (t : Bool) → eqb top v ≡ t → (trapsOf (pick t (Pop (sumOf ssp 8) pc) (Trap 18 3)) ≡ true) ↔ (v ≡ top → ⊥)
+    go true e = ((λ t. absurd (true≢false (sym t))), (λ n. absurd (n (sym (eqb-true top v e)))))
+    go false e = ((λ t d. eqb-false top v e (sym d)), (λ n. refl))
+
+-- the shadow stack is on where both enables are
+on-in-user : (h : Hart) → h .mode ≡ 0 → inForce h .sse ≡ true → sseOf (h .csrs .senvcfg) ≡ true
+    → settingOf (h .mode) (h .csrs) .shadow ≡ true
+unfolding settingOf controlOf shadowOn modeOf
+on-in-user h u m s = rw (u, m, s)
+
+-- a permitted pop-check is one to a shadow page, so menvcfg's enable is on
+permitted-sse : (h : Hart) (m map : List ℕ) (q : Physical) → Permitted h m map q → inForce h .sse ≡ true
+permitted-sse h m map q e =
+    let c : Control = inForce h in
+    let p = place-paged c kind.Pop Double (h .ssp) map (length m) q e (shadow-paged c kind.Pop Double (h .ssp) map (length m) q e refl) in
+    both (c .sse) _ (shadow-on-shadow c kind.Pop Double (h .ssp) map (length m) q e refl (p .leaf) (p .entry)) .0
+
+module _ (map : List ℕ) (h₀ : Hart) (m₀ : List ℕ) (N : Enough map h₀ m₀) where
+  abbrev G : Geometry (slot map h₀ m₀) (Shadow (inForce h₀) map) (length m₀)
+  G = geometry (inForce h₀) map (length m₀) (in-user h₀ (N .user)) (N .sv39) (N .once)
+
+  abbrev Kept : List Event → (ssp : ℕ) → (m : List ℕ) → Type 0
+  Kept es ssp m = Holds map h₀ m₀ G (N .user) (N .sv39) (N .once) es ssp m
+
+  -- every stretch keeps the invariant, and until it traps the mode and the CSRs
+  held : {es : List Event} {h : Hart} {m : List ℕ} {trapped : Bool} → Stretch map h₀ m₀ es h m trapped
+      → (trapped ≡ false → Same map h₀ m₀ h) × Kept es (h .ssp) m
+  held start = ((λ f. (refl, refl)), inv-start _ _ _ G (h₀ .ssp) m₀ (N .eight) refl)
+  held (step {es} {h} {m} r source ns np) =
+      let (same, I) = held r in
+      step-left map h₀ m₀ G (N .user) (N .sv39) (N .once) source es h m (same refl) I ns np
+
+  module _ (es : List Event) (h : Hart) (m : List ℕ) (same : Same map h₀ m₀ h) (I : Kept es (h .ssp) m) where
+    -- what stands at the pointer is the match
+    top-is : (q : Physical) → Permitted h m map q → readOf m q Double ≡ matchOf es m₀ q
+    top-is q e =
+        let f = as-at-start map h₀ m₀ h m same (I .long) kind.Pop Double (h .ssp) q e in
+        I .words (h .ssp) q (I .eight) f (omega arith)
+        ∙ ap (λ (j : ℕ). getD (unmatched es) j (readOf m₀ q Double)) (omega arith)
+
+    checked : (source : Source) (v : ℕ) (q : Physical) → PopCheck source h m map v → Permitted h m map q
+        → (stepFrom source h m map .trapped ≡ true) ↔ (v ≡ matchOf es m₀ q → ⊥)
+    unfolding stepFrom
+    checked source v q p e =
+        let on = on-in-user h (same .0 ∙ N .user) (permitted-sse h m map q e) (rw (same .1) (N .senvcfg)) in
+        rw (check-does source h m map v q p on e, ← top-is q e) (traps-where (readOf m q Double) v (h .ssp) (nextOf (h .pc)))
+
+  -- so it keeps its promise
+  pub promised : (es : List Event) (h : Hart) (m : List ℕ) (trapped : Bool) → Stretch map h₀ m₀ es h m trapped
+      → Promise map h₀ m₀ es h m trapped
+  promised es h m trapped r =
+      let (same, I) = held r in
+      record { pointer = I .pointer; bytes = I .bytes; checks = λ f. checked es h m (same f) I }
+
+-- what the user's words give is enough
+enough : (map : List ℕ) (h₀ : Hart) (m₀ : List ℕ) → Starts map h₀ m₀ → Enough map h₀ m₀
+unfolding settingOf controlOf
+enough map h₀ m₀ S = record {
+  eight = ssp-eight h₀ (lawful h₀ (not-false (legal h₀) (no-refusal h₀ m₀ map (S .accepted) .0)));
+  user = S .user;
+  sv39 = eq-eqb (h₀ .csrs .satp / 2 ^ 60) 8 (S .sv39);
+  senvcfg = S .senvcfg;
+  once = S .once;
+}
+
+-- the theorem
+pub shadow-stack : Claim
+shadow-stack map h₀ m₀ S es h m trapped r = promised map h₀ m₀ (enough map h₀ m₀ S) es h m trapped r

@@ -1,0 +1,14 @@
+pub mod Geometry
+pub mod Places
+pub mod Cycles
+pub mod Slots
+pub mod Bytes
+pub mod Invariant
+pub mod Origins
+pub mod Ties
+pub mod Steps
+pub mod Demand
+pub mod Runs
+pub mod Witness
+pub mod WitnessRun
+pub mod Without

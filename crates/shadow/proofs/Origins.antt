@@ -1,0 +1,286 @@
+-- What a step's effect comes from, along the cases of the step's definition: an effect `Push` is a push that the definition executes as one,
+-- and `Pop` a pop-check that found its register's value; an ordinary store has the place that a store was given; and in user mode a
+-- CSR instruction names no CSR but ssp.
+-- Assumes nothing.
+use mathlib.Core.Bool.{Bool, true, false, _&&_}
+use mathlib.Core.List.{List}
+use mathlib.Core.Path.{_≡_, refl, sym, ap, _∙_}
+use Prim.Native.Nat.{ℕ, _%_}
+use lib.Dec.{eqb}
+use lib.ListN.{length}
+use native.Mathlib.Omega.{arith}
+use borrow.Author.Tests.{eqb-true}
+use Rattle.word.specs.Choice.{pick}
+use Rattle.word.specs.Sum.{sumOf}
+use Rattle.isa.specs.Decode.{decodeOf}
+use Rattle.isa.specs.Size.{widthOf}
+use Rattle.isa.specs.declared.Access.{Access}
+use Rattle.isa.specs.declared.Access.the-variants as access
+use Rattle.isa.specs.declared.CsrOperation.{CsrOperation}
+use Rattle.isa.specs.declared.CsrSource.{CsrSource}
+use Rattle.isa.specs.declared.Instruction.{Instruction}
+use Rattle.isa.specs.declared.Instruction.the-variants.{Illegal, Lui, Auipc, Jal, Jalr, Branch, Memory, OpImm, OpImm32, Op, Op32, Fence, Ecall, Ebreak, Sret, Mret, Csr, ReadSsp, MopR, MopRr}
+use Rattle.isa.specs.declared.Width.the-variants.{Double}
+use Rattle.page.specs.declared.Kind.the-variants as kind
+use Rattle.page.specs.declared.Mode.{Mode}
+use Rattle.page.specs.declared.Mode.the-variants.{User, Supervisor, Machine}
+use Rattle.address.specs.Access.{kindOf}
+use Rattle.address.specs.Place.{placeOf}
+use Rattle.address.specs.Stack.{pushOf}
+use Rattle.address.specs.declared.Physical.{Physical}
+use Rattle.address.specs.declared.place.Place.{Place}
+use Rattle.address.specs.declared.place.Place.the-variants.{At, Fault}
+use Rattle.csr.proofs.Users.{user-ssp}
+use Rattle.csr.specs.Reach.{reachOf}
+use Rattle.csr.specs.declared.Csr as csr
+use Rattle.csr.specs.declared.Csr.the-variants.{Ssp}
+use Rattle.csr.specs.declared.reach.Reached.{Reached}
+use Rattle.csr.specs.declared.reach.Reached.the-variants as reached
+use Rattle.effect.specs.Access.{gateOf, addressOf, readOf, poppedOf, doneOf, atOf, passedOf, accessOf}
+use Rattle.effect.specs.Compute.{conditionOf}
+use Rattle.effect.specs.Csrs.{reachedOf, csrOf, writesOf, fieldOf}
+use Rattle.isa.specs.declared.Width.{Width}
+use Rattle.execute.specs.Instruction.{nextOf, executeOf}
+use Rattle.effect.specs.Jump.{evenOf, jalOf, jalrOf, branchOf}
+use Rattle.execute.specs.Plan.{fetchedOf, isPad, landedOf, arrivedOf, effectOf}
+use Rattle.effect.specs.Register.{regOf}
+use Rattle.effect.specs.System.{mretOf, sretOf}
+use Rattle.effect.specs.declared.Effect.{Effect}
+use Rattle.effect.specs.declared.Effect.the-variants.{Write, Jump, Pad, Store, Push, Pop, Swap, Trap}
+use Rattle.effect.specs.declared.Effect.the-variants as effect
+use Rattle.effect.specs.declared.Setting.{Setting}
+use Rattle.execute.specs.declared.Source.{Source}
+use Rattle.effect.specs.declared.Whole.{Whole}
+use Rattle.effect.specs.declared.Whole.the-variants as whole
+use Rattle.effect.specs.declared.access.Gate.{Gate}
+use Rattle.effect.specs.declared.access.Gate.the-variants as gate
+use Rattle.execute.specs.declared.plan.Fetched.{Fetched}
+use Rattle.execute.specs.declared.plan.Fetched.the-variants as fetched
+use Rattle.bank.specs.Regime.{settingOf}
+use Rattle.hart.specs.Step.{planOf}
+use Rattle.hart.specs.declared.Hart.{Hart}
+use Rattle.shadow.specs.Promise.{inForce, padStops, PopCheck, Permitted}
+
+-- a push that the definition executes as one: the word that the step fetches or is given is a push of a register that holds v, no pad
+-- check stops it, the shadow stack is on, and its access to the eight bytes below the pointer is permitted, at q
+pub record PushStep (source : Source) (h : Hart) (m map : List ℕ) (v : ℕ) (q : Physical) : Type 0 where
+  pub word : ℕ
+  pub rd : ℕ
+  pub rs1 : ℕ
+  pub rs2 : ℕ
+  pub off : ℕ
+  pub arrives : fetchedOf source (inForce h) (h .pc) m map ≡ fetched.Word word
+  pub passes : padStops h word ≡ false
+  pub reads : decodeOf word ≡ Memory access.Push rd rs1 rs2 off
+  pub register : v ≡ regOf (h .x) rs2
+  pub on : settingOf (h .mode) (h .csrs) .shadow ≡ true
+  pub place : placeOf (inForce h) kind.Push Double (pushOf (h .ssp)) map (length m) ≡ At q
+
+-- a pop-check that the definition completes
+pub record PopStep (source : Source) (h : Hart) (m map : List ℕ) (v : ℕ) (q : Physical) : Type 0 where
+  pub check : PopCheck source h m map v
+  pub on : settingOf (h .mode) (h .csrs) .shadow ≡ true
+  pub place : Permitted h m map q
+  pub equal : v ≡ readOf m q Double
+
+-- a swap of a width: the word that the step fetches or is given is one
+pub record SwapStep (source : Source) (h : Hart) (m map : List ℕ) (w : Width) : Type 0 where
+  pub word : ℕ
+  pub aq : Bool
+  pub rl : Bool
+  pub rd : ℕ
+  pub rs1 : ℕ
+  pub rs2 : ℕ
+  pub off : ℕ
+  pub arrives : fetchedOf source (inForce h) (h .pc) m map ≡ fetched.Word word
+  pub reads : decodeOf word ≡ Memory (access.Swap w aq rl) rd rs1 rs2 off
+
+-- a CSR instruction that names the CSR n, and whether it writes
+pub record CsrStep (source : Source) (h : Hart) (m map : List ℕ) (o : CsrOperation) (n : csr.Csr) (writes : Bool) (rd : ℕ) : Type 0 where
+  pub word : ℕ
+  pub from : CsrSource
+  pub address : ℕ
+  pub arrives : fetchedOf source (inForce h) (h .pc) m map ≡ fetched.Word word
+  pub reads : decodeOf word ≡ Csr o from rd address
+  pub names : reachOf (inForce h .mode) (settingOf (h .mode) (h .csrs) .permitted) address ≡ reached.To n
+  pub wrote : writes ≡ writesOf o (fieldOf from)
+
+open-on : (b : Bool) → pick b gate.Open gate.Off ≡ gate.Open → b ≡ true
+open-on true e = refl
+open-on false e = absurd (let z : _≡_ {A = ℕ} 0 1 = cc in omega arith)
+
+module _ (source : Source) (h : Hart) (m map : List ℕ) where
+  abbrev s : Setting
+  s = settingOf (h .mode) (h .csrs)
+
+  -- where each effect comes from
+  abbrev pub WholeOrigin : Whole → Type 0
+  WholeOrigin (whole.Csr o n writes v rd next) = (inForce h .mode ≡ User → n ≡ Ssp) × CsrStep source h m map o n writes rd
+  WholeOrigin whole.Mret = inForce h .mode ≡ User → ⊥
+  WholeOrigin whole.Sret = inForce h .mode ≡ User → ⊥
+
+  abbrev pub Origin : Effect → Type 0
+  Origin (Write rd v next) = Unit {0}
+  Origin (Jump rd link next elp) = Unit {0}
+  Origin (Pad next) = Unit {0}
+  Origin (Store q w v next) = (a : ℕ) × (placeOf (inForce h) kind.Store w a map (length m) ≡ At q)
+  Origin (Push q v ssp next) = (ssp ≡ pushOf (h .ssp)) × PushStep source h m map v q
+  Origin (Pop ssp next) = (ssp ≡ sumOf (h .ssp) 8) × (v : ℕ) × (q : Physical) × PopStep source h m map v q
+  Origin (Swap rd old q w v next) = SwapStep source h m map w
+  Origin (effect.Whole k) = WholeOrigin k
+  Origin (Trap cause tval) = Unit {0}
+
+  chosen : (b : Bool) (e f : Effect) → Origin e → Origin f → Origin (pick b e f)
+  chosen true e f p q = p
+  chosen false e f p q = q
+
+  jal-origin : (rd link target : ℕ) → Origin (jalOf rd link target)
+  unfolding jalOf
+  jal-origin rd link target = chosen (eqb (target % 4) 0) _ _ tt tt
+
+  jalr-origin : (rd rs1 link target : ℕ) (pad : Bool) → Origin (jalrOf rd rs1 link target pad)
+  unfolding jalrOf
+  jalr-origin rd rs1 link target pad = chosen (eqb (evenOf target % 4) 0) _ _ tt tt
+
+  branch-origin : (taken : Bool) (next target : ℕ) → Origin (branchOf taken next target)
+  unfolding branchOf
+  branch-origin taken next target = chosen taken _ _ (jal-origin 0 0 target) tt
+
+  mret-origin : (o : Mode) (word : ℕ) → inForce h .mode ≡ o → Origin (mretOf o word)
+  mret-origin User word e = tt
+  mret-origin Supervisor word e = tt
+  mret-origin Machine word e = λ u. let z : Machine ≡ User = sym e ∙ u in let y : _≡_ {A = ℕ} 0 1 = cc in omega arith
+
+  sret-origin : (o : Mode) (word : ℕ) → inForce h .mode ≡ o → Origin (sretOf o word)
+  sret-origin User word e = tt
+  sret-origin Supervisor word e = λ u. let z : Supervisor ≡ User = sym e ∙ u in let y : _≡_ {A = ℕ} 0 1 = cc in omega arith
+  sret-origin Machine word e = λ u. let z : Machine ≡ User = sym e ∙ u in let y : _≡_ {A = ℕ} 0 1 = cc in omega arith
+
+  -- the word of the step, and what is known of it once no pad check stops it
+  module _ (word : ℕ) (arrives : fetchedOf source (inForce h) (h .pc) m map ≡ fetched.Word word) (passes : padStops h word ≡ false) where
+    module _ (rd rs1 rs2 off : ℕ) where
+      abbrev a : ℕ
+      a = regOf (h .x) rs1
+
+      abbrev b : ℕ
+      b = regOf (h .x) rs2
+
+      popped-origin : (q : Physical) → decodeOf word ≡ Memory access.Pop rd rs1 rs2 off → s .shadow ≡ true → Permitted h m map q
+          → (t : Bool) → eqb (readOf m q Double) a ≡ t → Origin (pick t (Pop (sumOf (h .ssp) 8) (nextOf (h .pc))) (Trap 18 3))
+      popped-origin q reads on place true e = (
+        refl,
+        a,
+        q,
+        record {
+          check = record {
+            word = word;
+            rd = rd;
+            rs1 = rs1;
+            rs2 = rs2;
+            off = off;
+            arrives = arrives;
+            passes = passes;
+            reads = reads;
+            register = refl;
+          };
+          on = on;
+          place = place;
+          equal = sym (eqb-true (readOf m q Double) a e);
+        },
+      )
+      popped-origin q reads on place false e = tt
+
+      done-origin : (k : Access) (q : Physical) → decodeOf word ≡ Memory k rd rs1 rs2 off → gateOf k (s .shadow) (s .permitted) ≡ gate.Open
+          → placeOf (inForce h) (kindOf k) (widthOf k) (addressOf k (sumOf a off) (h .ssp)) map (length m) ≡ At q
+          → Origin (doneOf k q rd a b (h .ssp) (nextOf (h .pc)) m)
+      unfolding doneOf poppedOf
+      done-origin (access.Load w sign) q reads opened place = tt
+      done-origin (access.Store w) q reads opened place = (sumOf a off, place)
+      done-origin access.Push q reads opened place = (
+        refl,
+        record {
+          word = word;
+          rd = rd;
+          rs1 = rs1;
+          rs2 = rs2;
+          off = off;
+          arrives = arrives;
+          passes = passes;
+          reads = reads;
+          register = refl;
+          on = open-on (s .shadow) opened;
+          place = place;
+        },
+      )
+      done-origin access.Pop q reads opened place = popped-origin q reads (open-on (s .shadow) opened) place (eqb (readOf m q Double) a) refl
+      done-origin (access.Swap w aq rl) q reads opened place =
+          record { word = word; aq = aq; rl = rl; rd = rd; rs1 = rs1; rs2 = rs2; off = off; arrives = arrives; reads = reads }
+
+      at-origin : (k : Access) (p : Place) → decodeOf word ≡ Memory k rd rs1 rs2 off → gateOf k (s .shadow) (s .permitted) ≡ gate.Open
+          → placeOf (inForce h) (kindOf k) (widthOf k) (addressOf k (sumOf a off) (h .ssp)) map (length m) ≡ p
+          → Origin (atOf k p rd a b (h .ssp) (nextOf (h .pc)) m)
+      unfolding atOf
+      at-origin k (At q) reads opened place = done-origin k q reads opened place
+      at-origin k (Fault cause tval) reads opened place = tt
+
+      passed-origin : (k : Access) (g : Gate) → decodeOf word ≡ Memory k rd rs1 rs2 off → gateOf k (s .shadow) (s .permitted) ≡ g
+          → Origin (passedOf g k word rd a b off (h .ssp) (nextOf (h .pc)) s m map)
+      unfolding passedOf
+      passed-origin k gate.Open reads opened = at-origin k _ reads opened refl
+      passed-origin k gate.Off reads opened = tt
+      passed-origin k gate.Illegal reads opened = tt
+
+    reached-origin : (r : Reached) (address : ℕ) (o : CsrOperation) (from : CsrSource) (rd : ℕ) (next : ℕ) → decodeOf word ≡ Csr o from rd address
+        → reachOf (inForce h .mode) (s .permitted) address ≡ r → Origin (reachedOf r o from rd word (h .x) next)
+    unfolding reachedOf
+    reached-origin (reached.To n) address o from rd next d e = (
+      (λ u. user-ssp (s .permitted) address n (sym (ap (λ (o : Mode). reachOf o (s .permitted) address) u) ∙ e)),
+      record { word = word; from = from; address = address; arrives = arrives; reads = d; names = e; wrote = refl },
+    )
+    reached-origin reached.Illegal address o from rd next d e = tt
+
+    execute-origin : (i : Instruction) → decodeOf word ≡ i → Origin (executeOf i word (h .x) (h .pc) (h .ssp) s m map)
+    unfolding executeOf accessOf csrOf
+    execute-origin Illegal e = tt
+    execute-origin (Lui rd v) e = tt
+    execute-origin (Auipc rd v) e = tt
+    execute-origin (Jal rd off) e = jal-origin rd _ _
+    execute-origin (Jalr rd rs1 off) e = jalr-origin rd rs1 _ _ (s .pad)
+    execute-origin (Branch k rs1 rs2 off) e = branch-origin (conditionOf k (regOf (h .x) rs1) (regOf (h .x) rs2)) _ _
+    execute-origin (Memory k rd rs1 rs2 off) e = passed-origin rd rs1 rs2 off k (gateOf k (s .shadow) (s .permitted)) e refl
+    execute-origin (OpImm o rd rs1 v) e = tt
+    execute-origin (OpImm32 o rd rs1 v) e = tt
+    execute-origin (Op o rd rs1 rs2) e = tt
+    execute-origin (Op32 o rd rs1 rs2) e = tt
+    execute-origin (Fence fm pred succ rs1 rd) e = tt
+    execute-origin Ecall e = tt
+    execute-origin Ebreak e = tt
+    execute-origin Sret e = sret-origin (inForce h .mode) word refl
+    execute-origin Mret e = mret-origin (inForce h .mode) word refl
+    execute-origin (Csr o from rd address) e =
+        reached-origin (reachOf (inForce h .mode) (s .permitted) address) address o from rd _ e refl
+    execute-origin (ReadSsp rd) e = tt
+    execute-origin (MopR n rd rs1) e = tt
+    execute-origin (MopRr n rd rs1 rs2) e = tt
+
+  landed-origin : (w : ℕ) → fetchedOf source (inForce h) (h .pc) m map ≡ fetched.Word w
+      → Origin (landedOf w (h .x) (h .pc) (h .elp) (h .ssp) s m map)
+  unfolding landedOf
+  landed-origin w e = go (h .elp && s .pad) refl
+    where
+      go : (t : Bool) → (h .elp && s .pad) ≡ t
+          → Origin (pick t (pick (isPad w (regOf (h .x) 7)) (Pad (nextOf (h .pc))) (Trap 18 2))
+          (executeOf (decodeOf w) w (h .x) (h .pc) (h .ssp) s m map))
+      go true p = chosen (isPad w (regOf (h .x) 7)) _ _ tt tt
+      go false p = execute-origin w e (rw p) (decodeOf w) refl
+
+  arrived-origin : (f : Fetched) → fetchedOf source (inForce h) (h .pc) m map ≡ f
+      → Origin (arrivedOf f (h .x) (h .pc) (h .elp) (h .ssp) s m map)
+  unfolding arrivedOf
+  arrived-origin (fetched.Fault cause tval) e = tt
+  arrived-origin (fetched.Word w) e = landed-origin w e
+
+  -- of a step
+  pub origin : Origin (planOf source h m map)
+  unfolding effectOf
+  origin = arrived-origin (fetchedOf source (inForce h) (h .pc) m map) refl

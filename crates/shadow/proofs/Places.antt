@@ -1,0 +1,121 @@
+-- Two laws of places that the promise rests on: where a push may store, a pop-check may read; and an ordinary store stays beside every
+-- byte of a shadow page. Both go by what a place says of its access (address/proofs/Reach.antt).
+-- Assumes nothing.
+use mathlib.Core.Path.{_≡_, refl, sym, _∙_, ap, subst}
+use mathlib.Core.Bool.{true, false, true≢false}
+use mathlib.Core.List.{List}
+use mathlib.Core.Logic.{_⊎_, inl, inr}
+use Prim.Native.Nat.{ℕ, _+_, _*_, _/_, _%_, _≤_, _<_}
+use native.Mathlib.Omega.{arith}
+use borrow.Author.Tests.{le-leb}
+use Rattle.word.proofs.Bools.{both}
+use Rattle.word.proofs.Either.{either}
+use Rattle.isa.specs.Size.{sizeOf}
+use Rattle.isa.specs.declared.Width.{Width}
+use Rattle.page.proofs.Entries.{lookup-stands}
+use Rattle.page.proofs.Grants.{Held, held, granted}
+use Rattle.page.specs.Leaf.{leafOf, shadowPage, judgeOf, accessedDirty}
+use Rattle.page.specs.Map.{lookupOf}
+use Rattle.page.specs.declared.Kind.the-variants as kind
+use Rattle.page.specs.declared.Kind.{Kind}
+use Rattle.page.specs.declared.Mode.the-variants.{User}
+use Rattle.page.specs.declared.Mode.{Mode}
+use Rattle.page.specs.declared.Regime.{Regime}
+use Rattle.page.specs.declared.leaf.Leaf as leaf
+use Rattle.page.specs.declared.leaf.Verdict.the-variants.{Granted}
+use Rattle.page.specs.declared.map.Found.the-variants.{Leaf}
+use Rattle.address.proofs.Reach.{Within, Paged, place-aligned, place-paged, place-in-page, shadow-paged, store-off-shadow}
+use Rattle.address.specs.Align.{alignedOf}
+use Rattle.address.specs.Control.{modeOf, pagedOf, regimeOf}
+use Rattle.address.specs.Mask.{maskedOf, transformedOf}
+use Rattle.address.specs.Place.{base, frameOf, withinOf, insideOf, physicalOf, settleOf, throughOf, pagedPlaceOf, reachedOf, placeOf}
+use Rattle.address.specs.declared.Physical.{Physical}
+use Rattle.address.specs.declared.control.Control.{Control}
+use Rattle.address.specs.declared.place.Place.the-variants.{At}
+use Rattle.shadow.specs.Promise.{Entry, Shadow, StandsOnce, ValidLeaf, ValidShadow, leafAt}
+
+-- the bytes lie in memory, so step 9 gives the place
+within : (k : Kind) (w : Width) (len p t : ℕ) (q : Physical) → q .0 ≡ p → Within len w q → insideOf k w len p t ≡ At q
+unfolding insideOf withinOf
+within k w len p t q e i = rw (← e, le-leb base (q .0) (i .0), le-leb (q .0 + sizeOf w) (base + len) (i .1))
+
+-- every test of steps 5 to 9 holds, so they give the place
+through : (g : Regime) (k : Kind) (w : Width) (t : ℕ) (map : List ℕ) (len : ℕ) (q : Physical) → Paged g k w t map len q
+    → pagedPlaceOf g k w t map len ≡ At q
+unfolding pagedPlaceOf throughOf settleOf
+through g k w t map len q P =
+    rw (P .canonical, P .entry, P .granted) (within k w len (physicalOf (P .leaf) t) t q (P .frame) (P .within))
+
+-- and so do steps 3 to 9 where the access is aligned and paged
+reached : (c : Control) (m : Mode) (k : Kind) (w : Width) (t : ℕ) (map : List ℕ) (len : ℕ) (q : Physical) → t % sizeOf w ≡ 0
+    → pagedOf m (c .sv39) ≡ true → Paged (regimeOf c m) k w t map len q → reachedOf c m k w t map len ≡ At q
+unfolding reachedOf alignedOf
+reached c m k w t map len q a p P = rw (a, p) (through (regimeOf c m) k w t map len q P)
+
+-- A and D set, so A set
+accessed : (l : leaf.Leaf) → accessedDirty true l ≡ true → accessedDirty false l ≡ true
+accessed l h = rw (both (l .a) _ h .0)
+
+-- a pop-check asks no more of a leaf than a push does
+pop-held : (g : Regime) (l : leaf.Leaf) → Held g kind.Push l → Held g kind.Pop l
+pop-held g l h =
+    record { valid = h .valid; user = h .user; off = h .off; own = h .own; permitted = refl; stamped = accessed l (h .stamped) }
+
+pop-granted : (g : Regime) (l : leaf.Leaf) → judgeOf g kind.Push l ≡ Granted → judgeOf g kind.Pop l ≡ Granted
+pop-granted g l e = granted g l kind.Pop (pop-held g l (held g l kind.Push e))
+
+-- where a push may store, a pop-check may read
+pub push-pop : (c : Control) (w : Width) (a : ℕ) (map : List ℕ) (len : ℕ) (q : Physical)
+    → placeOf c kind.Push w a map len ≡ At q → placeOf c kind.Pop w a map len ≡ At q
+unfolding placeOf modeOf transformedOf
+push-pop c w a map len q e =
+    let s = shadow-paged c kind.Push w a map len q e refl in
+    let P = place-paged c kind.Push w a map len q e s in
+    reached c (c .mode) kind.Pop w (maskedOf c (c .mode) a) map len q (place-aligned c kind.Push w a map len q e) s
+    (record {
+      leaf = P .leaf;
+      canonical = P .canonical;
+      entry = P .entry;
+      granted = pop-granted (regimeOf c (c .mode)) (leafOf (P .leaf)) (P .granted);
+      frame = P .frame;
+      within = P .within;
+    })
+
+-- n bytes that do not leave a frame, and a byte in another frame
+beside : (q n f t b g : ℕ) → q ≡ f * 4096 + t % 4096 → t % 4096 + n ≤ 4096 → b / 4096 ≡ g → (f ≡ g → ⊥) → (b < q) ⊎ (q + n ≤ b)
+beside q n f t b g e l h d =
+    either b q (λ x. inl x) (λ x. either b (q + n) (λ y. absurd (d (omega arith))) (λ y. inr y))
+
+-- an entry with the frame of a valid shadow page is that page's
+pub one-entry : (c : Control) (map : List ℕ) → StandsOnce c map → (i j : ℕ) → Entry map i → Entry map j
+    → ValidShadow c (leafAt map i) → ValidLeaf c (leafAt map j) → frameOf (leafAt map j) ≡ frameOf (leafAt map i) → j ≡ i
+one-entry c map once i j p q v w f = once i j p q v w f
+
+-- so the entry of any other page has another frame
+other-frame : (c : Control) (map : List ℕ) → StandsOnce c map
+    → (page leaf : ℕ) → lookupOf map page ≡ Leaf leaf → ValidLeaf c leaf → shadowPage (c .sse) (leafOf leaf) ≡ false
+    → (o : ℕ) (x : Shadow c map o) → frameOf leaf ≡ frameOf (leafAt map (x .entry)) → ⊥
+other-frame c map once page leaf found taken off o x f =
+    let S = lookup-stands map page leaf found in
+    let i : S .place ≡ x .entry =
+    one-entry c map once (x .entry) (S .place) (x .stands) (S .inside) (x .valid) (subst (ValidLeaf c) (sym (S .word)) taken)
+    (ap frameOf (S .word) ∙ f) in
+    let l : leafAt map (x .entry) ≡ leaf = ap (leafAt map) (sym i) ∙ S .word in
+    true≢false (sym (x .valid .0) ∙ (ap (λ (e : ℕ). shadowPage (c .sse) (leafOf e)) l ∙ off))
+
+store-paged : (c : Control) → c .mode ≡ User → c .sv39 ≡ true → pagedOf (modeOf c kind.Store) (c .sv39) ≡ true
+unfolding modeOf
+store-paged c u s = rw (u, s)
+
+-- an ordinary store stays beside every byte of a shadow page
+pub store-beside : (c : Control) (w : Width) (a : ℕ) (map : List ℕ) (len : ℕ) (q : Physical)
+    → c .mode ≡ User → c .sv39 ≡ true → StandsOnce c map → placeOf c kind.Store w a map len ≡ At q
+    → (o : ℕ) → Shadow c map o → (base + o < q .0) ⊎ (q .0 + sizeOf w ≤ base + o)
+store-beside c w a map len q user sv39 once e o x =
+    let paged = store-paged c user sv39 in
+    let P = place-paged c kind.Store w a map len q e paged in
+    let off = store-off-shadow c kind.Store w a map len q e refl paged (P .leaf) (P .entry) in
+    beside (q .0) (sizeOf w) (frameOf (P .leaf)) (transformedOf c (modeOf c kind.Store) kind.Store a) (base + o)
+    (frameOf (leafAt map (x .entry)))
+    (P .frame) (place-in-page c kind.Store w a map len q e .0) (x .frame)
+    (other-frame c map once _ (P .leaf) (P .entry) (held (regimeOf c (modeOf c kind.Store)) (leafOf (P .leaf)) kind.Store (P .granted) .valid) off o x)

@@ -1,0 +1,130 @@
+-- What counts as a push, a pop and a pop-check is what the step's definition executes as one: each word that is one, that no pad check
+-- stops and whose access is permitted has that effect while the shadow stack is on, and no other step has it. What a stretch may
+-- not have, a swap and a CSR write of ssp, comes from such an instruction alone.
+-- Assumes nothing.
+use mathlib.Core.Bool.{Bool, true, false, _&&_, not}
+use mathlib.Core.List.{List}
+use mathlib.Core.Path.{_≡_, refl, sym, subst, _∙_}
+use Prim.Native.Nat.{ℕ, _%_, _^_}
+use lib.Dec.{eqb}
+use native.Mathlib.Omega.{arith}
+use borrow.Author.Tests.{eqb-true, eq-eqb, ne-eqb, not-true}
+use Rattle.word.proofs.Bools.{both}
+use Rattle.word.specs.Field.{fieldsOf}
+use Rattle.word.specs.Immediate.{immU}
+use Rattle.word.specs.Sum.{sumOf}
+use Rattle.isa.specs.Decode.{decodeOf}
+use Rattle.isa.specs.declared.Access.{Access}
+use Rattle.isa.specs.declared.Access.the-variants as access
+use Rattle.isa.specs.declared.Instruction.the-variants.{Auipc, Memory}
+use Rattle.isa.specs.declared.CsrOperation.{CsrOperation}
+use Rattle.isa.specs.declared.Width.{Width}
+use Rattle.isa.specs.declared.Width.the-variants.{Double}
+use Rattle.csr.specs.declared.Csr.the-variants.{Ssp}
+use Rattle.address.specs.Stack.{pushOf}
+use Rattle.address.specs.declared.Physical.{Physical}
+use Rattle.effect.specs.Access.{readOf, poppedOf, doneOf, atOf, passedOf, accessOf}
+use Rattle.execute.specs.Instruction.{nextOf, executeOf}
+use Rattle.execute.specs.Plan.{fetchedOf, isPad, landedOf, arrivedOf, effectOf}
+use Rattle.effect.specs.Register.{regOf}
+use Rattle.effect.specs.declared.Effect.the-variants.{Push, Pop, Swap, Trap}
+use Rattle.effect.specs.declared.Effect.the-variants as effect
+use Rattle.execute.specs.declared.Source.{Source}
+use Rattle.effect.specs.declared.Whole.the-variants as whole
+use Rattle.execute.specs.declared.plan.Fetched.the-variants.{Word}
+use Rattle.bank.specs.Regime.{settingOf}
+use Rattle.hart.specs.Step.{planOf}
+use Rattle.hart.specs.declared.Hart.{Hart}
+use Rattle.shadow.specs.Promise.{inForce, padStops, PopCheck, Permitted}
+use Rattle.shadow.proofs.Origins.{PushStep, PopStep, SwapStep, CsrStep, Origin, origin}
+
+-- a landing pad is an AUIPC
+pad-auipc : (w x7 : ℕ) → isPad w x7 ≡ true → decodeOf w ≡ Auipc (fieldsOf w .rd) (immU w)
+unfolding decodeOf
+pad-auipc w x7 e =
+    let (low, high) = both (eqb (w % 2 ^ 12) 0b00000_0010111) _ e in
+    let a : w % 2 ^ 12 ≡ 23 = eqb-true (w % 2 ^ 12) 23 low in
+    let o : w % 2 ^ 7 ≡ 23 = omega (arith, a) in
+    rw o
+
+auipc-memory : {A : Type 0} (rd v : ℕ) (k : Access) (d a b o : ℕ) → Auipc rd v ≡ Memory k d a b o → A
+auipc-memory rd v k d a b o e = absurd (let z : _≡_ {A = ℕ} 0 1 = cc in omega arith)
+
+-- a memory instruction is no landing pad: where no check stops it, none was made
+module _ (h : Hart) (w : ℕ) (k : Access) (rd rs1 rs2 off : ℕ) (reads : decodeOf w ≡ Memory k rd rs1 rs2 off) (passes : padStops h w ≡ false) where
+  unchecked : (h .elp && settingOf (h .mode) (h .csrs) .pad) ≡ false
+  unchecked = go (h .elp && settingOf (h .mode) (h .csrs) .pad) (isPad w (regOf (h .x) 7)) refl refl passes
+    where
+      go : (t p : Bool) → (h .elp && settingOf (h .mode) (h .csrs) .pad) ≡ t → isPad w (regOf (h .x) 7) ≡ p → (t && not p) ≡ false
+          → (h .elp && settingOf (h .mode) (h .csrs) .pad) ≡ false
+      go false p e f n = e
+      go true true e f n = auipc-memory _ _ k rd rs1 rs2 off (sym (pad-auipc w (regOf (h .x) 7) f) ∙ reads)
+      go true false e f n = cc
+
+module _ (source : Source) (h : Hart) (m map : List ℕ) (v : ℕ) (q : Physical) where
+  -- a push has the effect `Push`
+  pub push-does : PushStep source h m map v q → planOf source h m map ≡ Push q v (pushOf (h .ssp)) (nextOf (h .pc))
+  unfolding effectOf arrivedOf landedOf executeOf accessOf passedOf atOf doneOf
+  push-does p =
+      rw (
+        p .arrives,
+        unchecked h (p .word) access.Push (p .rd) (p .rs1) (p .rs2) (p .off) (p .reads) (p .passes),
+        p .reads,
+        p .on,
+        p .place,
+        p .register,
+      )
+
+  -- and nothing else has
+  pub push-is : (ssp next : ℕ) → planOf source h m map ≡ Push q v ssp next → PushStep source h m map v q
+  push-is ssp next e = subst (Origin source h m map) e (origin source h m map) .1
+
+  -- a pop-check compares what stands at the pointer with its register
+  pub check-does : PopCheck source h m map v → settingOf (h .mode) (h .csrs) .shadow ≡ true → Permitted h m map q
+      → planOf source h m map ≡ poppedOf (readOf m q Double) v (h .ssp) (nextOf (h .pc))
+  unfolding effectOf arrivedOf landedOf executeOf accessOf passedOf atOf doneOf
+  check-does p on place =
+      rw (
+        p .arrives,
+        unchecked h (p .word) access.Pop (p .rd) (p .rs1) (p .rs2) (p .off) (p .reads) (p .passes),
+        p .reads,
+        on,
+        place,
+        p .register,
+      )
+
+  -- and where they are equal it has the effect `Pop`
+  pub pop-does : PopStep source h m map v q → planOf source h m map ≡ Pop (sumOf (h .ssp) 8) (nextOf (h .pc))
+  unfolding poppedOf
+  pop-does p = check-does (p .check) (p .on) (p .place) ∙ rw (eq-eqb (readOf m q Double) v (sym (p .equal)))
+
+  -- and where they differ it is a shadow stack fault
+  pub mismatch-does : PopCheck source h m map v → settingOf (h .mode) (h .csrs) .shadow ≡ true → Permitted h m map q
+      → (v ≡ readOf m q Double → ⊥) → planOf source h m map ≡ Trap 18 3
+  unfolding poppedOf
+  mismatch-does p on place n = check-does p on place ∙ rw (ne-eqb (readOf m q Double) v (λ e. n (sym e)))
+
+-- a word that a pad check stops is the pad check's fault
+pub pad-stops : (source : Source) (h : Hart) (m map : List ℕ) (w : ℕ) → fetchedOf source (inForce h) (h .pc) m map ≡ Word w
+    → padStops h w ≡ true → planOf source h m map ≡ Trap 18 2
+unfolding effectOf arrivedOf landedOf
+pad-stops source h m map w a s =
+    let (on, off) = both (h .elp && settingOf (h .mode) (h .csrs) .pad) _ s in
+    rw (a, on, not-true (isPad w (regOf (h .x) 7)) off)
+
+-- an effect `Swap` is a swap's
+pub swap-is : (source : Source) (h : Hart) (m map : List ℕ) (rd old : ℕ) (q : Physical) (w : Width) (v next : ℕ)
+    → planOf source h m map ≡ Swap rd old q w v next → SwapStep source h m map w
+swap-is source h m map rd old q w v next e = subst (Origin source h m map) e (origin source h m map)
+
+-- and one that writes ssp is that of a CSR instruction that writes
+pub pointer-write-is : (source : Source) (h : Hart) (m map : List ℕ) (o : CsrOperation) (v rd next : ℕ)
+    → planOf source h m map ≡ effect.Whole (whole.Csr o Ssp true v rd next) → CsrStep source h m map o Ssp true rd
+pointer-write-is source h m map o v rd next e = subst (Origin source h m map) e (origin source h m map) .1
+
+-- no other step has the effect `Pop`
+pub pop-is : (source : Source) (h : Hart) (m map : List ℕ) (ssp next : ℕ) → planOf source h m map ≡ Pop ssp next
+    → (v : ℕ) × (q : Physical) × PopStep source h m map v q
+pop-is source h m map ssp next e =
+    let (moved, v, q, p) = subst (Origin source h m map) e (origin source h m map) in
+    (v, q, p)
