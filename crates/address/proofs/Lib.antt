@@ -1,4 +1,3 @@
--- The laws of "From address to byte" that belong to no one function.
+-- The laws of "From address to byte" that belong to no one function; those of a place are in crate `place`.
 pub mod Masking
-pub mod Reach
 pub mod Rows

@@ -4,4 +4,3 @@ pub mod Mask
 pub mod Align
 pub mod Stack
 pub mod Cause
-pub mod Place

@@ -3,9 +3,9 @@ use Prim.Native.Nat.{ℕ}
 use Rattle.csr.specs.declared.Csr.{Csr}
 use Rattle.word.specs.Row.{writeOf, readOf}
 use Rattle.csr.specs.Row.{rowOf}
-use Rattle.csr.specs.Enable.{sseOf, permitsOf}
-use Rattle.csr.specs.Reach.{reachOf}
-use Rattle.csr.specs.declared.reach.Reached.{Reached}
+use Rattle.rights.specs.Enable.{sseOf, permitsOf}
+use Rattle.rights.specs.Reach.{reachOf}
+use Rattle.rights.specs.declared.reach.Reached.{Reached}
 use Rattle.status.specs.Mode.{modeOf}
 use Rattle.bank.specs.Setters.{storedOf}
 use Rattle.bank.specs.declared.Csrs.{Csrs}

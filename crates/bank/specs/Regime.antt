@@ -6,7 +6,7 @@ use Rattle.word.specs.Row.{digit}
 use Rattle.address.specs.declared.control.Control.{Control}
 use Rattle.status.specs.Mode.{modeOf}
 use Rattle.status.specs.Status.{statusOf, mppMode}
-use Rattle.csr.specs.Enable.{sseOf, shadowOf, permitsOf, padOf}
+use Rattle.rights.specs.Enable.{sseOf, shadowOf, permitsOf, padOf}
 use Rattle.effect.specs.declared.Setting.{Setting}
 use Rattle.bank.specs.declared.Csrs.{Csrs}
 

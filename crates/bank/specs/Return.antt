@@ -1,7 +1,7 @@
 -- What MRET and SRET ask of the CSRs.
 use mathlib.Core.Bool.{Bool, _&&_}
 use Rattle.page.specs.declared.Mode.{Mode}
-use Rattle.csr.specs.Enable.{padOf}
+use Rattle.rights.specs.Enable.{padOf}
 use Rattle.bank.specs.declared.Csrs.{Csrs}
 
 -- the saved ELP if the new mode's pad enable is set, else 0

@@ -2,9 +2,9 @@
 use super::Csrs;
 use csr::Csr;
 use csr::access;
-use csr::enable;
-use csr::reach;
-use csr::reach::Reached;
+use rights::enable;
+use rights::reach;
+use rights::reach::Reached;
 use status::mode;
 ghost use mathlib.Core.Path.{_≡_};
 ghost use Rattle.bank.specs.Access.{reachedOf, shownOf, writtenOf};

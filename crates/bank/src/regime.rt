@@ -2,8 +2,8 @@
 // All take numbers or the CSRs alone, so that a step need not pass its hart.
 use super::Csrs;
 use address::control::Control;
-use csr::enable;
 use effect::Setting;
+use rights::enable;
 use status::mode;
 use status::returns;
 ghost use mathlib.Core.Path.{_≡_};

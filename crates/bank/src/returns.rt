@@ -1,7 +1,7 @@
 // What MRET and SRET ask of the CSRs.
 use super::Csrs;
-use csr::enable;
 use page::Mode;
+use rights::enable;
 use word::choice;
 ghost use mathlib.Core.Path.{_≡_};
 ghost use Rattle.bank.specs.Return.{elpAfter};

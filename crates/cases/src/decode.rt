@@ -248,7 +248,7 @@ pub fn judge(c: Counts, s: &[u8], at: Line, numbers: &[u64; MOST]) -> Counts
     if count != 9 {
         return report::broken(c, s, Fault::Wanted);
     }
-    let got = shown(isa::decode(word as u32));
+    let got = shown(decoder::decode(word as u32));
     let all = &numbers[..];
     report::judged(c, s, at, &all[1..9], &got)
 }

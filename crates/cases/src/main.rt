@@ -28,7 +28,7 @@ mod mask;
 // CSRs, refusal 1, traps and returns: what is done to a hart.
 mod operation;
 // From address to byte.
-mod place;
+mod places;
 // Refusals 2 and 3.
 mod refused;
 // The numbers of a hart.
@@ -62,7 +62,7 @@ fn run(subject: Subject, c: Counts, s: &[u8], at: Line, numbers: &[u64; MOST]) -
     match subject {
         Subject::Decode => decode::judge(c, s, at, numbers),
         Subject::Mask => mask::judge(c, s, at, numbers),
-        Subject::Place => place::judge(c, s, at, numbers),
+        Subject::Place => places::judge(c, s, at, numbers),
         Subject::Bytes => bytes::judge(c, s, at, numbers),
         Subject::Refused => refused::judge(c, s, at, numbers),
         Subject::Hart => operation::judge(c, s, at, numbers),

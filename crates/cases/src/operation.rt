@@ -10,7 +10,7 @@ ghost use Prim.Native.Nat.{_≤_};
 ghost use Rattle.lines.specs.Counted.{oneMore};
 ghost use Rattle.lines.specs.Most.{most};
 ghost use lib.ListN.{length};
-use super::place;
+use super::places;
 use super::state;
 use super::state::Came;
 use super::state::GIVEN;
@@ -19,14 +19,14 @@ use address::control;
 use address::mask;
 use bank::access;
 use bank::regime;
-use csr::enable;
-use csr::reach::Reached;
 use hart::Hart;
 use lines::line::Line;
 use lines::line::MOST;
 use lines::report;
 use lines::report::Counts;
 use lines::report::Fault;
+use rights::enable;
+use rights::reach::Reached;
 use status::mode;
 
 fn value(v: u64, hart: Hart) -> Came {
@@ -98,7 +98,7 @@ fn counted(b: bool, n: u64) -> u64
 fn regime(h: Hart, kind: u64) -> Came {
     let c = h.csrs;
     let g = regime::control(h.mode, c.mstatus, c.satp, c.menvcfg, c.senvcfg, c.mseccfg);
-    let m = control::effective(g, place::kind(kind));
+    let m = control::effective(g, places::kind(kind));
     let low = mode::number(m) + counted(control::paged(g, m), 4);
     let bits = counted(g.sum, 8) + counted(g.mxr, 16) + counted(g.sse, 32);
     value(low + bits + mask::pmlen(control::pmm(g, m)) * 64, h)

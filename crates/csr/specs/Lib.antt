@@ -1,4 +1,1 @@
 pub mod Row
-pub mod Enable
-pub mod Exception
-pub mod Reach

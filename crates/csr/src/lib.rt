@@ -1,10 +1,7 @@
-// The rules of single CSRs, on numbers: which address names which CSR and which mode may touch it, what a write leaves and
-// a read shows, which words a CSR can hold, and what they switch on. mstatus' own rules stand in crate `status`.
+// The rules of single CSRs, on numbers: what a write leaves and a read shows, and which words a CSR can hold. mstatus' own
+// rules stand in crate `status`; who may touch a CSR, and what it switches on, in crate `rights`.
 pub mod access;
-pub mod enable;
-pub mod exception;
 pub mod legal;
-pub mod reach;
 mod row;
 
 // The CSRs of document 01, in its order.

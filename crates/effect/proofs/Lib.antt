@@ -1,2 +1,2 @@
 -- The laws of effects that belong to no one function.
-pub mod Reached
+pub mod Stays

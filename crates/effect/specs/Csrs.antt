@@ -9,12 +9,12 @@ use Rattle.isa.specs.declared.CsrOperation.the-variants.{Write, Set, Clear}
 use Rattle.isa.specs.declared.CsrSource.{CsrSource}
 use Rattle.isa.specs.declared.CsrSource.the-variants.{Register, Immediate}
 use Rattle.page.specs.declared.Mode.{Mode}
-use Rattle.csr.specs.Reach.{reachOf}
-use Rattle.csr.specs.declared.reach.Reached.{Reached}
-use Rattle.csr.specs.declared.reach.Reached.the-variants as reached
+use Rattle.rights.specs.Reach.{reachOf}
+use Rattle.rights.specs.declared.reach.Reached.{Reached}
+use Rattle.rights.specs.declared.reach.Reached.the-variants as reached
 use Rattle.effect.specs.Register.{regOf}
 use Rattle.effect.specs.System.{trapWith}
-use Rattle.csr.specs.Exception.{illegalOf}
+use Rattle.rights.specs.Exception.{illegalOf}
 use Rattle.effect.specs.declared.Effect.{Effect}
 use Rattle.effect.specs.declared.Effect.the-variants as effect
 use Rattle.effect.specs.declared.Whole.the-variants as whole

@@ -2,8 +2,8 @@
 use Prim.Native.Nat.{ℕ}
 use Rattle.page.specs.declared.Mode.{Mode}
 use Rattle.page.specs.declared.Mode.the-variants.{User, Supervisor, Machine}
-use Rattle.csr.specs.Exception.{illegalOf}
-use Rattle.csr.specs.declared.exception.Exception.{Exception}
+use Rattle.rights.specs.Exception.{illegalOf}
+use Rattle.rights.specs.declared.exception.Exception.{Exception}
 use Rattle.effect.specs.declared.Effect.{Effect}
 use Rattle.effect.specs.declared.Effect.the-variants.{Whole, Trap}
 use Rattle.effect.specs.declared.Whole.the-variants.{Mret, Sret}

@@ -1,10 +1,10 @@
-// What an instruction changes: a small value, the effect, which the hart applies; and what each family of instructions does, from its
-// operands' values. Nothing here knows a hart, and nothing here changes anything but `register::put`, which writes a lent array.
-use address::Physical;
+// What an instruction changes: a small value, the effect, which the hart applies; and what each family of instructions but loads, stores
+// and the shadow stack's (crate `transfer`) does, from its operands' values. Nothing here knows a hart, and nothing here changes anything but `register::put`, which writes a lent array.
 use address::control::Control;
 use csr::Csr;
 use isa::CsrOperation;
 use isa::Width;
+use place::Physical;
 
 // What OP, OP-IMM and their word forms compute, and when a branch is taken.
 pub mod compute;
@@ -12,8 +12,6 @@ pub mod compute;
 pub mod register;
 // JAL, JALR and branches.
 pub mod jump;
-// Loads, stores and the shadow stack.
-pub mod access;
 // The CSR instructions.
 pub mod csrs;
 // MRET, SRET, ECALL, EBREAK and illegal instructions.

@@ -1,11 +1,11 @@
 // MRET, SRET, ECALL, EBREAK and illegal instructions.
 use super::Effect;
 use super::Whole;
-use csr::exception;
-use csr::exception::Exception;
 use page::Mode;
+use rights::exception;
+use rights::exception::Exception;
 ghost use mathlib.Core.Path.{_≡_};
-ghost use Rattle.csr.specs.Exception.{illegalOf, breakpointOf, callOf};
+ghost use Rattle.rights.specs.Exception.{illegalOf, breakpointOf, callOf};
 ghost use Rattle.effect.specs.System.{trapWith, mretOf, sretOf};
 
 fn trap(e: Exception) -> Effect

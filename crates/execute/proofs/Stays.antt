@@ -9,7 +9,7 @@ use lib.ListN.{length}
 use native.Mathlib.Omega.{arith}
 use Rattle.word.specs.Choice.{pick}
 use Rattle.word.specs.Sum.{sumOf}
-use Rattle.isa.specs.Decode.{decodeOf}
+use Rattle.decoder.specs.Decode.{decodeOf}
 use Rattle.isa.specs.Size.{widthOf}
 use Rattle.isa.specs.declared.Access.{Access}
 use Rattle.isa.specs.declared.Access.the-variants as access
@@ -20,17 +20,17 @@ use Rattle.isa.specs.declared.Instruction.the-variants.{Illegal, Lui, Auipc, Ja
 use Rattle.page.specs.declared.Mode.{Mode}
 use Rattle.page.specs.declared.Mode.the-variants.{User, Supervisor, Machine}
 use Rattle.address.specs.Access.{kindOf}
-use Rattle.address.specs.declared.Physical.{Physical}
-use Rattle.address.specs.declared.place.Place.{Place}
-use Rattle.address.specs.declared.place.Place.the-variants.{At, Fault}
-use Rattle.address.proofs.Reach.{place-within}
-use Rattle.csr.specs.Reach.{reachOf}
-use Rattle.csr.specs.declared.reach.Reached.{Reached}
-use Rattle.csr.specs.declared.reach.Reached.the-variants as reached
-use Rattle.effect.specs.Access.{Within, gateOf, addressOf, readOf, poppedOf, doneOf, atOf, passedOf, accessOf}
+use Rattle.place.specs.declared.Physical.{Physical}
+use Rattle.place.specs.declared.Place.{Place}
+use Rattle.place.specs.declared.Place.the-variants.{At, Fault}
+use Rattle.place.proofs.Reach.{place-within}
+use Rattle.rights.specs.Reach.{reachOf}
+use Rattle.rights.specs.declared.reach.Reached.{Reached}
+use Rattle.rights.specs.declared.reach.Reached.the-variants as reached
+use Rattle.transfer.specs.Access.{gateOf, addressOf, readOf, poppedOf, doneOf, atOf, passedOf, accessOf}
 use Rattle.effect.specs.Compute.{conditionOf}
 use Rattle.effect.specs.Csrs.{reachedOf, csrOf}
-use Rattle.effect.specs.Effect.{Stays}
+use Rattle.effect.specs.Effect.{Within, Stays}
 use Rattle.execute.specs.Instruction.{executeOf}
 use Rattle.effect.specs.Jump.{evenOf, jalOf, jalrOf, branchOf}
 use Rattle.execute.specs.Plan.{fetchedOf, isPad, landedOf, arrivedOf, effectOf}
@@ -39,8 +39,8 @@ use Rattle.effect.specs.System.{mretOf, sretOf}
 use Rattle.effect.specs.declared.Effect.{Effect}
 use Rattle.effect.specs.declared.Setting.{Setting}
 use Rattle.execute.specs.declared.Source.{Source}
-use Rattle.effect.specs.declared.access.Gate.{Gate}
-use Rattle.effect.specs.declared.access.Gate.the-variants as gate
+use Rattle.transfer.specs.declared.access.Gate.{Gate}
+use Rattle.transfer.specs.declared.access.Gate.the-variants as gate
 use Rattle.execute.specs.declared.plan.Fetched.{Fetched}
 use Rattle.execute.specs.declared.plan.Fetched.the-variants as fetched
 

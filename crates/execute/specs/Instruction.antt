@@ -7,8 +7,8 @@ use Rattle.word.specs.Choice.{pick}
 use Rattle.word.specs.Sum.{sumOf}
 use Rattle.isa.specs.declared.Instruction.{Instruction}
 use Rattle.isa.specs.declared.Instruction.the-variants.{Illegal, Lui, Auipc, Jal, Jalr, Branch, Memory, OpImm, OpImm32, Op, Op32, Fence, Ecall, Ebreak, Sret, Mret, Csr, ReadSsp, MopR, MopRr}
-use Rattle.csr.specs.Exception.{illegalOf, breakpointOf, callOf}
-use Rattle.effect.specs.Access.{accessOf}
+use Rattle.rights.specs.Exception.{illegalOf, breakpointOf, callOf}
+use Rattle.transfer.specs.Access.{accessOf}
 use Rattle.effect.specs.Compute.{operationOf, wordOperationOf, conditionOf}
 use Rattle.effect.specs.Csrs.{csrOf}
 use Rattle.effect.specs.Jump.{jalOf, jalrOf, branchOf}

@@ -6,14 +6,14 @@ use lib.Dec.{eqb}
 use lib.ListN.{length}
 use Rattle.word.specs.Choice.{pick}
 use Rattle.word.specs.Field.{bits}
-use Rattle.isa.specs.Decode.{decodeOf}
+use Rattle.decoder.specs.Decode.{decodeOf}
 use Rattle.isa.specs.declared.Width.the-variants as width
 use Rattle.page.specs.declared.Kind.the-variants as kind
-use Rattle.address.specs.Place.{placeOf}
+use Rattle.place.specs.Place.{placeOf}
 use Rattle.address.specs.declared.control.Control.{Control}
-use Rattle.address.specs.declared.place.Place.{Place}
-use Rattle.address.specs.declared.place.Place.the-variants as place
-use Rattle.effect.specs.Access.{readOf}
+use Rattle.place.specs.declared.Place.{Place}
+use Rattle.place.specs.declared.Place.the-variants as place
+use Rattle.transfer.specs.Access.{readOf}
 use Rattle.execute.specs.Instruction.{nextOf, executeOf}
 use Rattle.effect.specs.Register.{regOf}
 use Rattle.effect.specs.declared.Setting.{Setting}

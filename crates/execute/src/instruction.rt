@@ -1,7 +1,6 @@
 // One instruction's effect.
 use effect::Effect;
 use effect::Setting;
-use effect::access;
 use effect::compute;
 use effect::csrs;
 use effect::jump;
@@ -11,6 +10,7 @@ use isa::Condition;
 use isa::Instruction;
 use isa::Operation;
 use isa::WordOperation;
+use transfer::access;
 use word::sum;
 ghost use mathlib.Core.Path.{_≡_};
 ghost use Prim.Native.Nat.{_^_, _≤_};

@@ -3,11 +3,11 @@ use super::Source;
 use super::instruction;
 use address::Virtual;
 use address::control::Control;
-use address::place;
-use address::place::Place;
 use effect::Effect;
 use effect::Setting;
 use effect::register::reg;
+use place::Place;
+use place::steps;
 use word::choice;
 use word::sum;
 ghost use mathlib.Core.Path.{_≡_};
@@ -28,7 +28,7 @@ fn fetch(source: Source, c: Control, pc: u64, mem: &[u8], map: &[u64]) -> Fetche
     match source {
         Source::Given(w) => Fetched::Word(w),
         Source::Fetch => {
-            let p = place::fetch(c, Virtual(pc), map, mem.len() as u64);
+            let p = steps::fetch(c, Virtual(pc), map, mem.len() as u64);
             match p {
                 Place::At(q) => Fetched::Word(memory::word(mem, q.index())),
                 Place::Fault(cause, tval) => Fetched::Fault(cause, tval),
@@ -68,7 +68,7 @@ fn landed(
         }
         return Effect::Trap(18, 2);
     }
-    instruction::execute(isa::decode(w), w, x, pc, ssp, s, mem, map)
+    instruction::execute(decoder::decode(w), w, x, pc, ssp, s, mem, map)
 }
 
 pub fn plan(

@@ -16,7 +16,7 @@ use Rattle.page.specs.declared.Mode.the-variants.{User, Supervisor, Machine}
 use Rattle.word.specs.Row.{Field, digit, writeOf, legalOf, allSeen}
 use Rattle.status.specs.Fields.{mstatus}
 use Rattle.csr.specs.Row.{eights, fours, word, envcfg, satp, medeleg, mseccfg, rowOf, isView}
-use Rattle.csr.specs.Enable.{sseOf}
+use Rattle.rights.specs.Enable.{sseOf}
 use Rattle.status.specs.Mode.{numberOf, modeOf}
 use Rattle.status.specs.Status.{enterM, enterS, leaveM, leaveS, mppMode, sppMode}
 use Rattle.csr.specs.declared.Csr.{Csr}

@@ -5,7 +5,7 @@ use mathlib.Core.Bool.{Bool, true, false, _&&_}
 use mathlib.Core.List.{List}
 use mathlib.Core.Path.{_≡_}
 use Prim.Native.Nat.{ℕ}
-use Rattle.isa.proofs.Examples.{row-5, row-8, row-9}
+use Rattle.decoder.proofs.Examples.{row-5, row-8, row-9}
 use Rattle.execute.specs.Instruction.{nextOf, executeOf}
 use Rattle.effect.specs.Jump.{jalrOf}
 use Rattle.execute.specs.Plan.{fetchedOf, landedOf, arrivedOf, effectOf}

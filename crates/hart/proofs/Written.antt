@@ -9,15 +9,15 @@ use Rattle.page.specs.declared.Mode.the-variants.{User}
 use Rattle.word.specs.Choice.{pick}
 use Rattle.word.specs.Row.{Field, writeOf, readOf, allSeen}
 use Rattle.csr.specs.Row.{rowOf}
-use Rattle.csr.specs.Enable.{sseOf, permitsOf}
+use Rattle.rights.specs.Enable.{sseOf, permitsOf}
 use Rattle.status.specs.Mode.{modeOf}
-use Rattle.csr.specs.Reach.{reachOf}
+use Rattle.rights.specs.Reach.{reachOf}
 use Rattle.csr.specs.declared.Csr.{Csr}
 use Rattle.csr.specs.declared.Csr.the-variants.{Ssp, Sstatus, Stvec, Senvcfg, Sscratch, Sepc, Scause, Stval, Satp, Mstatus, Medeleg, Mtvec, Menvcfg, Mscratch, Mepc, Mcause, Mtval, Mseccfg}
-use Rattle.csr.specs.declared.reach.Reached.the-variants.{To, Illegal}
+use Rattle.rights.specs.declared.reach.Reached.the-variants.{To, Illegal}
 use Rattle.word.proofs.Rows.{backOf, back, shown}
 use Rattle.csr.proofs.Made.{all-fit, sixty-four, alike}
-use Rattle.csr.proofs.Users.{user-ssp}
+use Rattle.rights.proofs.Users.{user-ssp}
 use Rattle.bank.specs.Setters.{storedOf, putOf}
 use Rattle.hart.specs.Setters.{withSsp}
 use Rattle.bank.specs.Access.{reachedOf, shownOf, writtenOf}

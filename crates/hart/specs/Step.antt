@@ -9,7 +9,7 @@ use Rattle.isa.specs.Size.{sizeOf}
 use Rattle.isa.specs.declared.CsrOperation.{CsrOperation}
 use Rattle.isa.specs.declared.Width.the-variants.{Double}
 use Rattle.memory.specs.Bytes.{storeOf}
-use Rattle.address.specs.Place.{base}
+use Rattle.place.specs.Place.{base}
 use Rattle.csr.specs.declared.Csr.{Csr}
 use Rattle.effect.specs.Csrs.{mergedOf}
 use Rattle.execute.specs.Plan.{effectOf}

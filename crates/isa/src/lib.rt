@@ -1,19 +1,9 @@
-// The instructions: their decoded form, and the reader of instruction words.
+// The instructions: their decoded form, and how many bytes an access moves.
 //
 // The decoded form keeps every field of the word, also those that the hart ignores (FENCE's, a Zimop
 // word's, aq and rl), so that a word can be written back from it. Immediates and offsets are the 64 bits
 // of a signed number. Variants are tuples, and the comment above each names its parts in order.
-use word::field;
-use word::immediate;
-ghost use mathlib.Core.Path.{_≡_};
-ghost use Rattle.isa.specs.Decode.{decodeOf};
 
-// RV64I, and FENCE.
-mod base;
-// The shadow stack's swap and the words of Zimop.
-mod cfi;
-// ECALL, EBREAK, the returns and the CSR instructions.
-mod system;
 // How many bytes an access moves.
 pub mod size;
 
@@ -119,28 +109,4 @@ pub enum Instruction {
     MopR(u8, u8, u8),
     // n, rd, rs1, rs2
     MopRr(u8, u8, u8, u8),
-}
-
-// The instruction that a word names.
-pub fn decode(w: u32) -> Instruction
-    ensures { λ r. ⌜ r ≡ decodeOf w ⌝ }
-{
-    let f = field::split(w);
-    match w % 128 {
-        0b0110111 => Instruction::Lui(f.rd, immediate::imm_u(w)),
-        0b0010111 => Instruction::Auipc(f.rd, immediate::imm_u(w)),
-        0b1101111 => Instruction::Jal(f.rd, immediate::imm_j(w)),
-        0b1100111 => base::jalr(f, immediate::imm_i(w)),
-        0b1100011 => base::branch(f, immediate::imm_b(w)),
-        0b0000011 => base::load(f, immediate::imm_i(w)),
-        0b0100011 => base::store(f, immediate::imm_s(w)),
-        0b0010011 => base::op_imm(f, immediate::imm_i(w)),
-        0b0011011 => base::op_imm_32(f, immediate::imm_i(w)),
-        0b0110011 => base::op(f),
-        0b0111011 => base::op_32(f),
-        0b0001111 => base::misc_mem(w, f),
-        0b0101111 => cfi::swap(f),
-        0b1110011 => system::system(w, f),
-        _ => Instruction::Illegal,
-    }
 }

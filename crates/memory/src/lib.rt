@@ -1,7 +1,7 @@
 // The bytes behind an address: loads and stores of any width in a lent slice, little-endian.
 //
 // A place in memory is an index here; which address stands for it, and who may use it, is the business
-// of crate `address`.
+// of crate `place`.
 use isa::Width;
 use isa::size;
 use word::sign;

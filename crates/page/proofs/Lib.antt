@@ -1,3 +1,2 @@
--- The laws of pages that belong to no one function.
+-- The laws of the page map that belong to no one function.
 pub mod Entries
-pub mod Grants

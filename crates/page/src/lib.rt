@@ -1,15 +1,12 @@
-// Pages: the page map that the host lends, and what a leaf of it lets an access do. Steps 5 to 8 of document 01's
-// "From address to byte", and refusal 3.
+// Pages: the page map that the host lends, with refusal 3, and what a leaf of it is judged by: the kind of access and the regime.
 //
-// Lookup of a page number and judgement of a leaf are kept apart: how an entry is found can change without a
+// Lookup of a page number and judgement of a leaf (crate `leaf`) are kept apart: how an entry is found can change without a
 // word about what it permits.
 
 // What the rules ask of a kind of access.
 pub mod kinds;
 // The page map: lookup of a page number, and refusal 3.
 pub mod map;
-// Steps 5 to 8: what a leaf lets an access do.
-pub mod leaf;
 
 // What an access is for.
 pub enum Kind {

@@ -9,7 +9,7 @@ use lib.ListN.{getD, length}
 use Rattle.word.proofs.Either.{either}
 use Rattle.memory.proofs.Stores.{byte-before, byte-in, byte-after}
 use Rattle.memory.specs.Bytes.{storeOf}
-use Rattle.address.specs.Place.{base}
+use Rattle.place.specs.Place.{base}
 use Rattle.shadow.specs.Promise.{wroteOf}
 
 -- the eight bytes of v are those of its 64 bits

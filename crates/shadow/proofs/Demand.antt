@@ -16,12 +16,12 @@ use Rattle.word.specs.Choice.{pick}
 use Rattle.word.specs.Sum.{sumOf}
 use Rattle.isa.specs.declared.Width.the-variants.{Double}
 use Rattle.page.specs.declared.Kind.the-variants as kind
-use Rattle.address.proofs.Reach.{place-paged, shadow-paged, shadow-on-shadow}
-use Rattle.address.specs.declared.Physical.{Physical}
+use Rattle.place.proofs.Reach.{place-paged, shadow-paged, shadow-on-shadow}
+use Rattle.place.specs.declared.Physical.{Physical}
 use Rattle.address.specs.declared.control.Control.{Control}
-use Rattle.csr.specs.Enable.{sseOf}
+use Rattle.rights.specs.Enable.{sseOf}
 use Rattle.status.specs.Mode.{modeOf}
-use Rattle.effect.specs.Access.{readOf, poppedOf}
+use Rattle.transfer.specs.Access.{readOf, poppedOf}
 use Rattle.execute.specs.Instruction.{nextOf}
 use Rattle.effect.specs.declared.Effect.the-variants.{Pop, Trap}
 use Rattle.execute.specs.declared.Source.{Source}

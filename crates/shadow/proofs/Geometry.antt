@@ -7,11 +7,11 @@ use mathlib.Core.Path.{_≡_}
 use Prim.Native.Nat.{ℕ, suc, _+_, _-_, _%_, _≤_, _<_}
 use Rattle.word.specs.Sum.{sumOf, differenceOf}
 use Rattle.isa.specs.declared.Width.the-variants.{Double}
-use Rattle.address.proofs.Reach.{Within}
-use Rattle.address.specs.Place.{base}
-use Rattle.address.specs.declared.Physical.{Physical}
-use Rattle.address.specs.declared.place.Place.{Place}
-use Rattle.address.specs.declared.place.Place.the-variants.{At}
+use Rattle.place.proofs.Reach.{Within}
+use Rattle.place.specs.Place.{base}
+use Rattle.place.specs.declared.Physical.{Physical}
+use Rattle.place.specs.declared.Place.{Place}
+use Rattle.place.specs.declared.Place.the-variants.{At}
 
 pub record Geometry (slot : ℕ → Place) (Shadow : ℕ → Type 0) (len : ℕ) : Type 0 where
   pub rank : ℕ → ℕ

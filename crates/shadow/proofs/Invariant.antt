@@ -14,11 +14,11 @@ use Rattle.word.specs.Sum.{sumOf, differenceOf}
 use Rattle.isa.specs.declared.Width.the-variants.{Double}
 use Rattle.memory.proofs.Stores.{length-store, load-same, load-ext, load-other}
 use Rattle.memory.specs.Bytes.{storeOf}
-use Rattle.address.specs.Place.{base}
-use Rattle.address.specs.declared.Physical.{Physical}
-use Rattle.address.specs.declared.place.Place.{Place}
-use Rattle.address.specs.declared.place.Place.the-variants.{At}
-use Rattle.effect.specs.Access.{readOf}
+use Rattle.place.specs.Place.{base}
+use Rattle.place.specs.declared.Physical.{Physical}
+use Rattle.place.specs.declared.Place.{Place}
+use Rattle.place.specs.declared.Place.the-variants.{At}
+use Rattle.transfer.specs.Access.{readOf}
 use Rattle.shadow.specs.Promise.{Event, pushed, popped, quiet, pushes, pops, Moved, wroteOf, latest, unmatched}
 use Rattle.shadow.proofs.Bytes.{written}
 use Rattle.shadow.proofs.Geometry.{Geometry}

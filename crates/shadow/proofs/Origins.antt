@@ -12,7 +12,7 @@ use native.Mathlib.Omega.{arith}
 use borrow.Author.Tests.{eqb-true}
 use Rattle.word.specs.Choice.{pick}
 use Rattle.word.specs.Sum.{sumOf}
-use Rattle.isa.specs.Decode.{decodeOf}
+use Rattle.decoder.specs.Decode.{decodeOf}
 use Rattle.isa.specs.Size.{widthOf}
 use Rattle.isa.specs.declared.Access.{Access}
 use Rattle.isa.specs.declared.Access.the-variants as access
@@ -25,18 +25,18 @@ use Rattle.page.specs.declared.Kind.the-variants as kind
 use Rattle.page.specs.declared.Mode.{Mode}
 use Rattle.page.specs.declared.Mode.the-variants.{User, Supervisor, Machine}
 use Rattle.address.specs.Access.{kindOf}
-use Rattle.address.specs.Place.{placeOf}
+use Rattle.place.specs.Place.{placeOf}
 use Rattle.address.specs.Stack.{pushOf}
-use Rattle.address.specs.declared.Physical.{Physical}
-use Rattle.address.specs.declared.place.Place.{Place}
-use Rattle.address.specs.declared.place.Place.the-variants.{At, Fault}
-use Rattle.csr.proofs.Users.{user-ssp}
-use Rattle.csr.specs.Reach.{reachOf}
+use Rattle.place.specs.declared.Physical.{Physical}
+use Rattle.place.specs.declared.Place.{Place}
+use Rattle.place.specs.declared.Place.the-variants.{At, Fault}
+use Rattle.rights.proofs.Users.{user-ssp}
+use Rattle.rights.specs.Reach.{reachOf}
 use Rattle.csr.specs.declared.Csr as csr
 use Rattle.csr.specs.declared.Csr.the-variants.{Ssp}
-use Rattle.csr.specs.declared.reach.Reached.{Reached}
-use Rattle.csr.specs.declared.reach.Reached.the-variants as reached
-use Rattle.effect.specs.Access.{gateOf, addressOf, readOf, poppedOf, doneOf, atOf, passedOf, accessOf}
+use Rattle.rights.specs.declared.reach.Reached.{Reached}
+use Rattle.rights.specs.declared.reach.Reached.the-variants as reached
+use Rattle.transfer.specs.Access.{gateOf, addressOf, readOf, poppedOf, doneOf, atOf, passedOf, accessOf}
 use Rattle.effect.specs.Compute.{conditionOf}
 use Rattle.effect.specs.Csrs.{reachedOf, csrOf, writesOf, fieldOf}
 use Rattle.isa.specs.declared.Width.{Width}
@@ -52,8 +52,8 @@ use Rattle.effect.specs.declared.Setting.{Setting}
 use Rattle.execute.specs.declared.Source.{Source}
 use Rattle.effect.specs.declared.Whole.{Whole}
 use Rattle.effect.specs.declared.Whole.the-variants as whole
-use Rattle.effect.specs.declared.access.Gate.{Gate}
-use Rattle.effect.specs.declared.access.Gate.the-variants as gate
+use Rattle.transfer.specs.declared.access.Gate.{Gate}
+use Rattle.transfer.specs.declared.access.Gate.the-variants as gate
 use Rattle.execute.specs.declared.plan.Fetched.{Fetched}
 use Rattle.execute.specs.declared.plan.Fetched.the-variants as fetched
 use Rattle.bank.specs.Regime.{settingOf}

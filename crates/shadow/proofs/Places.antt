@@ -1,5 +1,5 @@
 -- Two laws of places that the promise rests on: where a push may store, a pop-check may read; and an ordinary store stays beside every
--- byte of a shadow page. Both go by what a place says of its access (address/proofs/Reach.antt).
+-- byte of a shadow page. Both go by what a place says of its access (place/proofs/Reach.antt).
 -- Assumes nothing.
 use mathlib.Core.Path.{_≡_, refl, sym, _∙_, ap, subst}
 use mathlib.Core.Bool.{true, false, true≢false}
@@ -13,25 +13,25 @@ use Rattle.word.proofs.Either.{either}
 use Rattle.isa.specs.Size.{sizeOf}
 use Rattle.isa.specs.declared.Width.{Width}
 use Rattle.page.proofs.Entries.{lookup-stands}
-use Rattle.page.proofs.Grants.{Held, held, granted}
-use Rattle.page.specs.Leaf.{leafOf, shadowPage, judgeOf, accessedDirty}
+use Rattle.leaf.proofs.Grants.{Held, held, granted}
+use Rattle.leaf.specs.Leaf.{leafOf, shadowPage, judgeOf, accessedDirty}
 use Rattle.page.specs.Map.{lookupOf}
 use Rattle.page.specs.declared.Kind.the-variants as kind
 use Rattle.page.specs.declared.Kind.{Kind}
 use Rattle.page.specs.declared.Mode.the-variants.{User}
 use Rattle.page.specs.declared.Mode.{Mode}
 use Rattle.page.specs.declared.Regime.{Regime}
-use Rattle.page.specs.declared.leaf.Leaf as leaf
-use Rattle.page.specs.declared.leaf.Verdict.the-variants.{Granted}
+use Rattle.leaf.specs.declared.Leaf as leaf
+use Rattle.leaf.specs.declared.Verdict.the-variants.{Granted}
 use Rattle.page.specs.declared.map.Found.the-variants.{Leaf}
-use Rattle.address.proofs.Reach.{Within, Paged, place-aligned, place-paged, place-in-page, shadow-paged, store-off-shadow}
+use Rattle.place.proofs.Reach.{Within, Paged, place-aligned, place-paged, place-in-page, shadow-paged, store-off-shadow}
 use Rattle.address.specs.Align.{alignedOf}
 use Rattle.address.specs.Control.{modeOf, pagedOf, regimeOf}
 use Rattle.address.specs.Mask.{maskedOf, transformedOf}
-use Rattle.address.specs.Place.{base, frameOf, withinOf, insideOf, physicalOf, settleOf, throughOf, pagedPlaceOf, reachedOf, placeOf}
-use Rattle.address.specs.declared.Physical.{Physical}
+use Rattle.place.specs.Place.{base, frameOf, withinOf, insideOf, physicalOf, settleOf, throughOf, pagedPlaceOf, reachedOf, placeOf}
+use Rattle.place.specs.declared.Physical.{Physical}
 use Rattle.address.specs.declared.control.Control.{Control}
-use Rattle.address.specs.declared.place.Place.the-variants.{At}
+use Rattle.place.specs.declared.Place.the-variants.{At}
 use Rattle.shadow.specs.Promise.{Entry, Shadow, StandsOnce, ValidLeaf, ValidShadow, leafAt}
 
 -- the bytes lie in memory, so step 9 gives the place

@@ -13,19 +13,19 @@ use Rattle.word.specs.Sign.{signExtendOf}
 use Rattle.word.specs.Sum.{sumOf, differenceOf}
 use Rattle.isa.specs.declared.Width.the-variants.{Double}
 use Rattle.page.proofs.Entries.{lookup-stands}
-use Rattle.page.proofs.Grants.{held}
-use Rattle.page.specs.Leaf.{leafOf}
+use Rattle.leaf.proofs.Grants.{held}
+use Rattle.leaf.specs.Leaf.{leafOf}
 use Rattle.page.specs.declared.Kind.the-variants as kind
 use Rattle.page.specs.declared.Mode.the-variants.{User}
 use Rattle.page.specs.declared.Mode.{Mode}
-use Rattle.address.proofs.Reach.{Within, Paged, place-aligned, place-paged, shadow-paged}
+use Rattle.place.proofs.Reach.{Within, Paged, place-aligned, place-paged, shadow-paged}
 use Rattle.address.specs.Control.{modeOf, regimeOf}
 use Rattle.address.specs.Mask.{pmlenOf, maskOf, transformedOf}
-use Rattle.address.specs.Place.{base, frameOf, canonicalOf, pageNumber, reachedOf, placeOf}
-use Rattle.address.specs.declared.Physical.{Physical}
+use Rattle.place.specs.Place.{base, frameOf, canonicalOf, pageNumber, reachedOf, placeOf}
+use Rattle.place.specs.declared.Physical.{Physical}
 use Rattle.address.specs.declared.control.Control.{Control}
-use Rattle.address.specs.declared.place.Place.{Place}
-use Rattle.address.specs.declared.place.Place.the-variants.{At}
+use Rattle.place.specs.declared.Place.{Place}
+use Rattle.place.specs.declared.Place.the-variants.{At}
 use Rattle.shadow.specs.Promise.{Shadow, StandsOnce, ValidShadow, Entry, leafAt}
 use Rattle.shadow.proofs.Cycles.{Masked, masked, rankOf, rank-step, rank-back, rank-same, rank-inj, gap, sign-same, sign-inj, sign-lt, canonical-inj}
 use Rattle.shadow.proofs.Geometry.{Geometry}

@@ -18,12 +18,12 @@ use Rattle.memory.specs.Bytes.{storeOf}
 use Rattle.page.specs.declared.Kind.{Kind}
 use Rattle.page.specs.declared.Kind.the-variants as kind
 use Rattle.page.specs.declared.Mode.the-variants.{User}
-use Rattle.address.proofs.Reach.{place-within}
-use Rattle.address.specs.Place.{base, placeOf}
-use Rattle.address.specs.declared.Physical.{Physical}
+use Rattle.place.proofs.Reach.{place-within}
+use Rattle.place.specs.Place.{base, placeOf}
+use Rattle.place.specs.declared.Physical.{Physical}
 use Rattle.address.specs.declared.control.Control.{Control}
-use Rattle.address.specs.declared.place.Place.{Place}
-use Rattle.address.specs.declared.place.Place.the-variants.{At}
+use Rattle.place.specs.declared.Place.{Place}
+use Rattle.place.specs.declared.Place.the-variants.{At}
 use Rattle.csr.specs.declared.Csr.{Csr}
 use Rattle.csr.specs.declared.Csr.the-variants.{Ssp}
 use Rattle.effect.specs.declared.Effect.{Effect}

@@ -13,7 +13,7 @@ use Rattle.word.proofs.Bools.{both}
 use Rattle.word.specs.Field.{fieldsOf}
 use Rattle.word.specs.Immediate.{immU}
 use Rattle.word.specs.Sum.{sumOf}
-use Rattle.isa.specs.Decode.{decodeOf}
+use Rattle.decoder.specs.Decode.{decodeOf}
 use Rattle.isa.specs.declared.Access.{Access}
 use Rattle.isa.specs.declared.Access.the-variants as access
 use Rattle.isa.specs.declared.Instruction.the-variants.{Auipc, Memory}
@@ -22,8 +22,8 @@ use Rattle.isa.specs.declared.Width.{Width}
 use Rattle.isa.specs.declared.Width.the-variants.{Double}
 use Rattle.csr.specs.declared.Csr.the-variants.{Ssp}
 use Rattle.address.specs.Stack.{pushOf}
-use Rattle.address.specs.declared.Physical.{Physical}
-use Rattle.effect.specs.Access.{readOf, poppedOf, doneOf, atOf, passedOf, accessOf}
+use Rattle.place.specs.declared.Physical.{Physical}
+use Rattle.transfer.specs.Access.{readOf, poppedOf, doneOf, atOf, passedOf, accessOf}
 use Rattle.execute.specs.Instruction.{nextOf, executeOf}
 use Rattle.execute.specs.Plan.{fetchedOf, isPad, landedOf, arrivedOf, effectOf}
 use Rattle.effect.specs.Register.{regOf}

@@ -7,27 +7,27 @@ use mathlib.Core.List.{List, [], _∷_}
 use mathlib.Core.Path.{_≡_, refl, sym, _∙_}
 use Prim.Native.Nat.{ℕ, _/_, _^_}
 use native.Mathlib.Omega.{arith}
-use Rattle.isa.specs.Base as isa
-use Rattle.isa.specs.Cfi.{swapOf, zimopOf}
-use Rattle.isa.specs.System as system
-use Rattle.isa.specs.Decode.{decodeOf}
+use Rattle.base.specs.Base as base
+use Rattle.decoder.specs.Cfi.{swapOf, zimopOf}
+use Rattle.decoder.specs.System as system
+use Rattle.decoder.specs.Decode.{decodeOf}
 use Rattle.isa.specs.declared.CsrOperation.the-variants as operation
 use Rattle.isa.specs.declared.Width.the-variants.{Double}
 use Rattle.memory.specs.Bytes.{bytesOf, number, loadOf, storeOf}
 use Rattle.memory.specs.Extend.{extendOf}
 use Rattle.memory.specs.Refusal as memory
-use Rattle.page.specs.Leaf.{judgeOf}
+use Rattle.leaf.specs.Leaf.{judgeOf}
 use Rattle.page.specs.Map as page
 use Rattle.address.specs.Align.{alignedOf}
 use Rattle.address.specs.Control as control
 use Rattle.address.specs.Mask.{maskOf, transformedOf}
-use Rattle.address.specs.Place.{withinOf, insideOf, settleOf, throughOf, pagedPlaceOf, plainPlaceOf, reachedOf, placeOf}
-use Rattle.address.specs.declared.Physical.{Physical}
+use Rattle.place.specs.Place.{withinOf, insideOf, settleOf, throughOf, pagedPlaceOf, plainPlaceOf, reachedOf, placeOf}
+use Rattle.place.specs.declared.Physical.{Physical}
 use Rattle.status.specs.Mode.{modeOf}
-use Rattle.csr.specs.Enable.{sseOf}
-use Rattle.csr.specs.Reach.{reachOf}
+use Rattle.rights.specs.Enable.{sseOf}
+use Rattle.rights.specs.Reach.{reachOf}
 use Rattle.csr.specs.declared.Csr.the-variants.{Ssp}
-use Rattle.effect.specs.Access.{doneOf, atOf, passedOf, accessOf}
+use Rattle.transfer.specs.Access.{doneOf, atOf, passedOf, accessOf}
 use Rattle.effect.specs.Csrs as csrs
 use Rattle.execute.specs.Instruction.{executeOf}
 use Rattle.execute.specs.Plan.{fetchedOf, landedOf, arrivedOf, effectOf}
@@ -159,7 +159,7 @@ record Computed : Type 0 where
   disabled-goes-on : stepFrom (Given sspopchk) disabled memory₀ map₀ .trapped ≡ false
 
 computed : Computed
-unfolding refusalOf legal csrsLegal memory.refusedOf page.refusedOf page.pagesOf page.anyLarge page.riseFrom page.strictlyRise stepFrom wholeOf csrOf changedOf csrWriteOf writtenOf shownOf effectOf fetchedOf arrivedOf landedOf executeOf decodeOf isa.storeOf swapOf system.systemOf system.csrOf zimopOf csrs.csrOf csrs.reachedOf reachOf accessOf passedOf atOf doneOf placeOf reachedOf control.modeOf transformedOf maskOf alignedOf pagedPlaceOf plainPlaceOf throughOf page.lookupOf settleOf judgeOf insideOf withinOf settingOf controlOf shadowOn padOn modeOf memory₀ bytesOf number loadOf extendOf
+unfolding refusalOf legal csrsLegal memory.refusedOf page.refusedOf page.pagesOf page.anyLarge page.riseFrom page.strictlyRise stepFrom wholeOf csrOf changedOf csrWriteOf writtenOf shownOf effectOf fetchedOf arrivedOf landedOf executeOf decodeOf base.storeOf swapOf system.systemOf system.csrOf zimopOf csrs.csrOf csrs.reachedOf reachOf accessOf passedOf atOf doneOf placeOf reachedOf control.modeOf transformedOf maskOf alignedOf pagedPlaceOf plainPlaceOf throughOf page.lookupOf settleOf judgeOf insideOf withinOf settingOf controlOf shadowOn padOn modeOf memory₀ bytesOf number loadOf extendOf
 computed = record {
   alias-accepted = refl;
   alias-shadow = record { entry = 1; stands = omega arith; valid = (refl, refl); frame = refl };

@@ -8,20 +8,20 @@ use mathlib.Core.Path.{_≡_, refl, sym, ap, _∙_}
 use Prim.Native.Nat.{ℕ, zero, suc, _*_, _^_}
 use native.Mathlib.Omega.{arith}
 use lib.ListN.{replicate}
-use Rattle.isa.specs.Cfi.{zimopOf}
-use Rattle.isa.specs.System.{systemOf, csrOf}
-use Rattle.isa.specs.Decode.{decodeOf}
+use Rattle.decoder.specs.Cfi.{zimopOf}
+use Rattle.decoder.specs.System.{systemOf, csrOf}
+use Rattle.decoder.specs.Decode.{decodeOf}
 use Rattle.memory.specs.Bytes.{bytesOf, number, loadOf, storeOf}
 use Rattle.memory.specs.Refusal as memory
-use Rattle.page.specs.Leaf.{judgeOf}
+use Rattle.leaf.specs.Leaf.{judgeOf}
 use Rattle.page.specs.Map as page
 use Rattle.address.specs.Align.{alignedOf}
 use Rattle.address.specs.Control as control
 use Rattle.address.specs.Mask.{maskOf, transformedOf}
-use Rattle.address.specs.Place.{withinOf, insideOf, settleOf, throughOf, pagedPlaceOf, reachedOf, placeOf}
+use Rattle.place.specs.Place.{withinOf, insideOf, settleOf, throughOf, pagedPlaceOf, reachedOf, placeOf}
 use Rattle.address.specs.declared.control.Control.{Control}
 use Rattle.status.specs.Mode.{modeOf}
-use Rattle.effect.specs.Access.{poppedOf, doneOf, atOf, passedOf, accessOf}
+use Rattle.transfer.specs.Access.{poppedOf, doneOf, atOf, passedOf, accessOf}
 use Rattle.execute.specs.Instruction.{executeOf}
 use Rattle.execute.specs.Plan.{fetchedOf, landedOf, arrivedOf, effectOf}
 use Rattle.effect.specs.declared.Effect.{Effect}

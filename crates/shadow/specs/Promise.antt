@@ -21,21 +21,21 @@ use Prim.Native.Nat.{ℕ, suc, _+_, _-_, _*_, _/_, _%_, _^_, _≤_}
 use lib.Dec.{leb, ltb}
 use lib.ListN.{getD, drop, length}
 use Rattle.word.specs.Choice.{pick}
-use Rattle.isa.specs.Decode.{decodeOf}
+use Rattle.decoder.specs.Decode.{decodeOf}
 use Rattle.isa.specs.declared.Access.the-variants as access
 use Rattle.isa.specs.declared.CsrOperation.{CsrOperation}
 use Rattle.isa.specs.declared.Instruction.the-variants as instruction
 use Rattle.isa.specs.declared.Width.{Width}
 use Rattle.isa.specs.declared.Width.the-variants.{Double}
-use Rattle.page.specs.Leaf.{leafOf, hasRight, shadowPage, validLeaf}
+use Rattle.leaf.specs.Leaf.{leafOf, hasRight, shadowPage, validLeaf}
 use Rattle.page.specs.declared.Kind.the-variants as kind
-use Rattle.address.specs.Place.{base, frameOf, placeOf}
-use Rattle.address.specs.declared.Physical.{Physical}
+use Rattle.place.specs.Place.{base, frameOf, placeOf}
+use Rattle.place.specs.declared.Physical.{Physical}
 use Rattle.address.specs.declared.control.Control.{Control}
-use Rattle.address.specs.declared.place.Place.the-variants.{At}
-use Rattle.csr.specs.Enable.{sseOf}
+use Rattle.place.specs.declared.Place.the-variants.{At}
+use Rattle.rights.specs.Enable.{sseOf}
 use Rattle.csr.specs.declared.Csr.the-variants.{Ssp}
-use Rattle.effect.specs.Access.{readOf}
+use Rattle.transfer.specs.Access.{readOf}
 use Rattle.execute.specs.Plan.{fetchedOf, isPad}
 use Rattle.effect.specs.Register.{regOf}
 use Rattle.effect.specs.declared.Effect.{Effect}

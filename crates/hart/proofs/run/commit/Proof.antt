@@ -1,6 +1,6 @@
 -- `hart::run::commit` meets its contract: an effect an arm, its bytes in memory. Assumes nothing.
 use native.Mathlib.Omega.{arith}
-use Rattle.effect.proofs.Reached.{fits}
+use Rattle.effect.proofs.Stays.{fits}
 use borrow.Author.Needs.{needs}
 use Rattle.hart.proofs.run.commit.Statement.{statement}
 use Rattle.hart.proofs.run.commit.Tie as tie

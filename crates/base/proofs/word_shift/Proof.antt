@@ -1,0 +1,21 @@
+-- `base::word_shift` meets its contract: the rows of `wordShifts`. Assumes nothing.
+use borrow.Author.Needs.{needs}
+use Rattle.word.proofs.Tables.{missed}
+use Rattle.base.specs.Base.{wordShiftOf, wordShifts}
+use Rattle.base.proofs.word_shift.Statement.{statement}
+use Rattle.base.proofs.word_shift.Tie as tie
+
+pub word-shift-spec : {M : Type 1} → statement M
+unfolding wordShiftOf
+word-shift-spec =
+    tie.close
+    (tie.spec
+    (λ c. search needs)
+    (λ c. search needs)
+    (λ c. search needs)
+    (λ c. search needs)
+    (λ c. search needs)
+    (λ c. rw (c .match .keys1))
+    (λ c. rw (c .match .keys2))
+    (λ c. rw (c .match .keys3))
+    (λ c. missed _ (wordShifts (c .before .before .before .before .args .f)) (c .match .rest)))

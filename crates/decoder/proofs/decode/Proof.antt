@@ -1,0 +1,49 @@
+-- `decoder::decode` meets its contract: the rows of `opcodes`. Assumes nothing.
+use borrow.Author.Needs.{needs}
+use Rattle.word.proofs.Tables.{missed}
+use Rattle.word.specs.Field.{fieldsOf}
+use Rattle.decoder.specs.Decode.{decodeOf, opcodes}
+use Rattle.decoder.proofs.decode.Statement.{statement}
+use Rattle.decoder.proofs.decode.Tie as tie
+
+pub decode-spec : {M : Type 1} → statement M
+unfolding decodeOf
+decode-spec =
+    tie.close
+    (tie.spec
+    (λ c κs. search needs)
+    (λ c κs. search needs)
+    (λ c κs. search needs)
+    (λ c κs. search needs)
+    (λ c κs. search needs)
+    (λ c κs. search needs)
+    (λ c κs. search needs)
+    (λ c κs. search needs)
+    (λ c κs. search needs)
+    (λ c κs. search needs)
+    (λ c κs. search needs)
+    (λ c κs. search needs)
+    (λ c κs. search needs)
+    (λ c κs. search needs)
+    (λ c κs. search needs)
+    (λ c κs. search needs)
+    (λ c κs. search needs)
+    (λ c κs. search needs)
+    (λ c κs. search needs)
+    (λ c κs. search needs)
+    (λ c κs. search needs)
+    (λ c. rw (c .before .match .keys1, c .imm-u .ensures, c .before .before .split .ensures))
+    (λ c. rw (c .before .match .keys2, c .imm-u2 .ensures, c .before .before .split .ensures))
+    (λ c. rw (c .before .match .keys3, c .imm-j .ensures, c .before .before .split .ensures))
+    (λ c. rw (c .before .before .match .keys4, c .jalr .ensures, c .before .imm-i .ensures, c .before .before .before .split .ensures))
+    (λ c. rw (c .before .before .match .keys5, c .branch .ensures, c .before .imm-b .ensures, c .before .before .before .split .ensures))
+    (λ c. rw (c .before .before .match .keys6, c .load .ensures, c .before .imm-i2 .ensures, c .before .before .before .split .ensures))
+    (λ c. rw (c .before .before .match .keys7, c .store .ensures, c .before .imm-s .ensures, c .before .before .before .split .ensures))
+    (λ c. rw (c .before .before .match .keys8, c .op-imm .ensures, c .before .imm-i3 .ensures, c .before .before .before .split .ensures))
+    (λ c. rw (c .before .before .match .keys9, c .op-imm-32 .ensures, c .before .imm-i4 .ensures, c .before .before .before .split .ensures))
+    (λ c. rw (c .before .match .keys10, c .op .ensures, c .before .before .split .ensures))
+    (λ c. rw (c .before .match .keys11, c .op-32 .ensures, c .before .before .split .ensures))
+    (λ c. rw (c .before .match .keys12, c .misc-mem .ensures, c .before .before .split .ensures))
+    (λ c. rw (c .before .match .keys13, c .swap .ensures, c .before .before .split .ensures))
+    (λ c. rw (c .before .match .keys14, c .system .ensures, c .before .before .split .ensures))
+    (λ c. missed _ (opcodes (c .before .before .args .w) (fieldsOf (c .before .before .args .w))) (c .match .rest)))

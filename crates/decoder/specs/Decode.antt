@@ -1,0 +1,33 @@
+-- The instruction that a word names: the manual's map of major opcodes. Every word that no row has is illegal, among them each whose low two bits are not 11.
+use Prim.Native.Nat.{ℕ}
+use Rattle.word.specs.Choice.{Table, _⇒_¦_, otherwise, look}
+use Rattle.word.specs.Field.{opcode, fieldsOf}
+use Rattle.word.specs.Immediate.{immI, immS, immB, immU, immJ}
+use Rattle.word.specs.declared.field.Fields.{Fields}
+use Rattle.base.specs.Base.{jalrOf, branchOf, loadOf, storeOf, opImmOf, opImm32Of, opOf, op32Of, miscMemOf}
+use Rattle.decoder.specs.Cfi.{swapOf}
+use Rattle.decoder.specs.System.{systemOf}
+use Rattle.isa.specs.declared.Instruction.{Instruction}
+use Rattle.isa.specs.declared.Instruction.the-variants.{Illegal, Lui, Auipc, Jal}
+
+-- LUI, AUIPC, JAL, JALR, BRANCH, LOAD, STORE, OP-IMM, OP-IMM-32, OP, OP-32, MISC-MEM, AMO, SYSTEM
+abbrev pub opcodes : ℕ → Fields → Table Instruction
+opcodes w f =
+    0b0110111 ⇒ Lui (f .rd) (immU w)
+    ¦ 0b0010111 ⇒ Auipc (f .rd) (immU w)
+    ¦ 0b1101111 ⇒ Jal (f .rd) (immJ w)
+    ¦ 0b1100111 ⇒ jalrOf f (immI w)
+    ¦ 0b1100011 ⇒ branchOf f (immB w)
+    ¦ 0b0000011 ⇒ loadOf f (immI w)
+    ¦ 0b0100011 ⇒ storeOf f (immS w)
+    ¦ 0b0010011 ⇒ opImmOf f (immI w)
+    ¦ 0b0011011 ⇒ opImm32Of f (immI w)
+    ¦ 0b0110011 ⇒ opOf f
+    ¦ 0b0111011 ⇒ op32Of f
+    ¦ 0b0001111 ⇒ miscMemOf w f
+    ¦ 0b0101111 ⇒ swapOf f
+    ¦ 0b1110011 ⇒ systemOf w f
+    ¦ otherwise Illegal
+
+unfoldable pub decodeOf : ℕ → Instruction
+decodeOf w = look (opcode w) (opcodes w (fieldsOf w))

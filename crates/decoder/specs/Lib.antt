@@ -1,0 +1,3 @@
+pub mod Cfi
+pub mod System
+pub mod Decode

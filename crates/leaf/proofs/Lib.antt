@@ -1,0 +1,2 @@
+-- The laws of leaves that belong to no one function.
+pub mod Grants

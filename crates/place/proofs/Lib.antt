@@ -1,0 +1,2 @@
+-- The laws of a place that belong to no one function.
+pub mod Reach

@@ -1,0 +1,28 @@
+-- `place::steps::through` meets its contract: an entry or none. Assumes nothing.
+use Rattle.place.specs.Place.{throughOf}
+use borrow.Author.Needs.{needs}
+use Rattle.place.proofs.steps.through.Statement.{statement}
+use Rattle.place.proofs.steps.through.Tie as tie
+
+returns : tie.Need-returns
+unfolding throughOf
+returns c = rw (c .before .enum-told .given .1, c .page-fault .ensures)
+
+returns-2 : tie.Need-returns-2
+unfolding throughOf
+returns-2 c = rw (c .before .before .before .before .before .f .given .1, ← c .before .before .bits .ensures, ← c .before .judge .ensures) (c .settle .ensures)
+
+pub through-spec : {M : Type 1} → statement M
+through-spec =
+    tie.close
+    (tie.spec
+    (λ c. search needs)
+    (λ c κs. search needs)
+    (λ c. search needs)
+    (λ c. search needs)
+    (λ c. search needs)
+    (λ c κs. search needs)
+    (λ c κs. search needs)
+    (λ c κs. search needs)
+    returns
+    returns-2)

@@ -1,0 +1,134 @@
+// The nine steps in their order: from a virtual address to a place in memory, or to a cause and its tval.
+use super::BASE;
+use super::Physical;
+use super::Place;
+use address::Virtual;
+use address::align;
+use address::cause;
+use address::control;
+use address::control::Control;
+use address::mask;
+use isa::Width;
+use isa::size;
+use leaf::Verdict;
+use page::Kind;
+use page::Regime;
+use page::kinds;
+use page::map;
+use page::map::Found;
+ghost use mathlib.Core.Path.{_≡_};
+ghost use Prim.Native.Nat.{_^_, _≤_};
+ghost use Rattle.isa.specs.declared.Width.the-variants.{Word};
+ghost use Rattle.page.specs.declared.Kind.the-variants.{Fetch};
+ghost use Rattle.place.specs.Place.{withinOf, insideOf, canonicalOf, settleOf, throughOf, pagedPlaceOf, plainPlaceOf, placeOf};
+
+// Step 9's test: all n bytes from p on lie in memory of this length.
+fn within(len: u64, p: u64, n: u64) -> bool
+    requires { ⌜ (len ≤ 2 ^ 20) × (n ≤ 8) ⌝ }
+    ensures { λ r. ⌜ r ≡ withinOf len p n ⌝ }
+{
+    if p < BASE {
+        return false;
+    }
+    if BASE + len < p {
+        return false;
+    }
+    p + n <= BASE + len
+}
+
+// Step 9.
+fn inside(k: Kind, w: Width, len: u64, p: Physical, t: Virtual) -> Place
+    requires { ⌜ len ≤ 2 ^ 20 ⌝ }
+    ensures { λ r. ⌜ r ≡ insideOf k w len (p .0) (t .0) ⌝ }
+{
+    if within(len, p.0, size::bytes(w)) {
+        return Place::At(p);
+    }
+    Place::Fault(cause::access_fault(k), t.0)
+}
+
+// Step 5: bits 63:39 equal bit 38.
+fn canonical(t: u64) -> bool
+    ensures { λ r. ⌜ r ≡ canonicalOf t ⌝ }
+{
+    t / 0x80_0000_0000 == t / 0x40_0000_0000 % 2 * 0x1ff_ffff
+}
+
+fn settle(v: Verdict, k: Kind, w: Width, len: u64, p: Physical, t: Virtual) -> Place
+    requires { ⌜ len ≤ 2 ^ 20 ⌝ }
+    ensures { λ r. ⌜ r ≡ settleOf v k w len (p .0) (t .0) ⌝ }
+{
+    match v {
+        Verdict::Granted => inside(k, w, len, p, t),
+        Verdict::PageFault => Place::Fault(cause::page_fault(k), t.0),
+        Verdict::AccessFault => Place::Fault(cause::access_fault(k), t.0),
+    }
+}
+
+// Steps 5 to 9, with what the map has for the page.
+fn through(f: Found, g: Regime, k: Kind, w: Width, len: u64, t: Virtual) -> Place
+    requires { ⌜ len ≤ 2 ^ 20 ⌝ }
+    ensures { λ r. ⌜ r ≡ throughOf f g k w len (t .0) ⌝ }
+{
+    match f {
+        Found::Absent => Place::Fault(cause::page_fault(k), t.0),
+        Found::Leaf(e) => {
+            let p = Physical(e / 1024 % 0x1000_0000_0000 * 4096 + t.0 % 4096);
+            settle(leaf::judge(g, k, leaf::bits(e)), k, w, len, p, t)
+        }
+    }
+}
+
+// Steps 5 to 9, under Sv39.
+fn paged(g: Regime, k: Kind, w: Width, t: Virtual, map: &[u64], len: u64) -> Place
+    requires { ⌜ len ≤ 2 ^ 20 ⌝ }
+    ensures { λ r. ⌜ r ≡ pagedPlaceOf g k w (t .0) (now (map .entry)) len ⌝ }
+{
+    if canonical(t.0) {
+        return through(map::lookup(map, t.0 / 4096 % 0x800_0000), g, k, w, len, t);
+    }
+    Place::Fault(cause::page_fault(k), t.0)
+}
+
+// Steps 4 and 9, in M or Bare, where the address is the physical one.
+fn plain(k: Kind, w: Width, t: Virtual, len: u64) -> Place
+    requires { ⌜ len ≤ 2 ^ 20 ⌝ }
+    ensures { λ r. ⌜ r ≡ plainPlaceOf k w (t .0) len ⌝ }
+{
+    if kinds::is_shadow(k) {
+        return Place::Fault(7, t.0);
+    }
+    inside(k, w, len, Physical(t.0), t)
+}
+
+// The nine steps for a fetch, which is not masked and always has the current mode. Every step of a run makes one: on its own, it
+// is compiled into the run's loop, and so is what is left of `translate`.
+pub fn fetch(c: Control, a: Virtual, map: &[u64], len: u64) -> Place
+    requires { ⌜ len ≤ 2 ^ 20 ⌝ }
+    ensures { λ r. ⌜ r ≡ placeOf c Fetch Word (a .0) (now (map .entry)) len ⌝ }
+{
+    let m = c.mode;
+    if align::aligned(Width::Word, a) {
+        if control::paged(c, m) {
+            return paged(control::regime(c, m), Kind::Fetch, Width::Word, a, map, len);
+        }
+        return plain(Kind::Fetch, Width::Word, a, len);
+    }
+    Place::Fault(cause::misaligned(Kind::Fetch), a.0)
+}
+
+// The only ways from a Virtual to a Physical, in Bare and in M too, are this and `fetch`.
+pub fn translate(c: Control, k: Kind, w: Width, a: Virtual, map: &[u64], len: u64) -> Place
+    requires { ⌜ len ≤ 2 ^ 20 ⌝ }
+    ensures { λ r. ⌜ r ≡ placeOf c k w (a .0) (now (map .entry)) len ⌝ }
+{
+    let m = control::effective(c, k);
+    let t = mask::transform(c, m, k, a);
+    if align::aligned(w, t) {
+        if control::paged(c, m) {
+            return paged(control::regime(c, m), k, w, t, map, len);
+        }
+        return plain(k, w, t, len);
+    }
+    Place::Fault(cause::misaligned(k), t.0)
+}

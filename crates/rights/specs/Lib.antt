@@ -1,0 +1,3 @@
+pub mod Enable
+pub mod Exception
+pub mod Reach
