@@ -32,7 +32,8 @@ use Rattle.hart.specs.Legal.{legal}
 use Rattle.bank.specs.Regime.{settingOf}
 use Rattle.hart.specs.Run.{Run, followed, runFrom}
 use Rattle.hart.specs.Setters.{withPc, withElp, withSsp}
-use Rattle.hart.specs.Step.{Outcome, withReg, changedOf, csrOf, wholeOf, applyOf, memoryOf, planOf, stepFrom}
+use Rattle.transfer.specs.Commit.{memoryOf}
+use Rattle.hart.specs.Step.{Outcome, withReg, changedOf, csrOf, wholeOf, applyOf, planOf, stepFrom}
 use Rattle.hart.specs.declared.Hart.{Hart}
 use Rattle.hart.proofs.Lawful.{Lawful, lawful, legal-of, write-lawful, moved-lawful, ssp-eight, trap-lawful, mret-lawful, sret-lawful}
 

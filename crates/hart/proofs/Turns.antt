@@ -11,7 +11,8 @@ use Rattle.effect.specs.declared.Effect.the-variants.{Write, Jump, Pad, Store, 
 use Rattle.execute.specs.declared.Source.{Source}
 use Rattle.execute.specs.declared.Source.the-variants.{Fetch}
 use Rattle.hart.specs.Run.{Run, after, stayed, once, followed, runFrom}
-use Rattle.hart.specs.Step.{Outcome, applyOf, memoryOf, trapsOf, causeOf, planOf, stepFrom}
+use Rattle.transfer.specs.Commit.{memoryOf}
+use Rattle.hart.specs.Step.{Outcome, applyOf, trapsOf, causeOf, planOf, stepFrom}
 use Rattle.hart.specs.Trap.{trapOf}
 use Rattle.hart.specs.declared.Hart.{Hart}
 

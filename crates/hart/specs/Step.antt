@@ -3,17 +3,14 @@
 -- Below, h is the hart, m memory, e the effect.
 use mathlib.Core.Bool.{Bool, true, false}
 use mathlib.Core.List.{List}
-use Prim.Native.Nat.{ℕ, _-_}
+use Prim.Native.Nat.{ℕ}
 use Rattle.word.specs.Choice.{pick}
-use Rattle.isa.specs.Size.{sizeOf}
 use Rattle.isa.specs.declared.CsrOperation.{CsrOperation}
-use Rattle.isa.specs.declared.Width.the-variants.{Double}
-use Rattle.memory.specs.Bytes.{storeOf}
-use Rattle.place.specs.Place.{base}
 use Rattle.csr.specs.declared.Csr.{Csr}
 use Rattle.effect.specs.Csrs.{mergedOf}
 use Rattle.execute.specs.Plan.{effectOf}
 use Rattle.effect.specs.Register.{putOf}
+use Rattle.transfer.specs.Commit.{memoryOf}
 use Rattle.effect.specs.declared.Effect.{Effect}
 use Rattle.effect.specs.declared.Effect.the-variants.{Write, Jump, Pad, Store, Push, Pop, Swap, Trap}
 use Rattle.effect.specs.declared.Effect.the-variants as effect
@@ -57,18 +54,6 @@ applyOf (Pop ssp next) h = withPc next (withSsp ssp h)
 applyOf (Swap rd old q w v next) h = withPc next (withReg rd old h)
 applyOf (effect.Whole k) h = wholeOf k h
 applyOf (Trap cause tval) h = trapOf h cause tval
-
--- memory after an effect
-abbrev pub memoryOf : Effect → (m : List ℕ) → List ℕ
-memoryOf (Write rd v next) m = m
-memoryOf (Jump rd link next elp) m = m
-memoryOf (Pad next) m = m
-memoryOf (Store q w v next) m = storeOf m (q .0 - base) (sizeOf w) v
-memoryOf (Push q v ssp next) m = storeOf m (q .0 - base) (sizeOf Double) v
-memoryOf (Pop ssp next) m = m
-memoryOf (Swap rd old q w v next) m = storeOf m (q .0 - base) (sizeOf w) v
-memoryOf (effect.Whole k) m = m
-memoryOf (Trap cause tval) m = m
 
 -- whether an effect is a trap
 abbrev pub trapsOf : Effect → Bool

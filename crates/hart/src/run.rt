@@ -8,12 +8,10 @@ use effect::Effect;
 use effect::register;
 use execute::Source;
 use execute::plan;
-use isa::Width;
+use transfer::commit;
 ghost use mathlib.Core.Path.{_≡_};
 ghost use Prim.Native.Nat.{_^_, _≤_};
 ghost use lib.ListN.{length};
-ghost use Rattle.effect.specs.Effect.{Stays};
-ghost use Rattle.hart.specs.Step.{memoryOf};
 ghost use Rattle.hart.specs.Run.{runFrom, ranOf};
 
 // What a run hands back: the steps taken, the trapping one included, and the last trap's cause if there was one (else 0).
@@ -22,24 +20,6 @@ pub struct Ran {
     pub count: u64,
     pub trapped: bool,
     pub cause: u64,
-}
-
-// Memory after an effect.
-fn commit(mem: &mut [u8], e: Effect)
-    requires { ⌜ Stays e (length (now mem)) ⌝ }
-    ensures { λ _. ⌜ now (mem .exit) ≡ memoryOf e (now (mem .entry)) ⌝ }
-{
-    match e {
-        Effect::Write(_, _, _) => {}
-        Effect::Jump(_, _, _, _) => {}
-        Effect::Pad(_) => {}
-        Effect::Store(q, w, v, _) => memory::store(mem, q.index(), w, v),
-        Effect::Push(q, v, _, _) => memory::store(mem, q.index(), Width::Double, v),
-        Effect::Pop(_, _) => {}
-        Effect::Swap(_, _, q, w, v, _) => memory::store(mem, q.index(), w, v),
-        Effect::Whole(_) => {}
-        Effect::Trap(_, _) => {}
-    }
 }
 
 fn report(hart: Hart, count: u64, trapped: bool, cause: u64) -> Ran
@@ -69,7 +49,7 @@ pub fn run(h: Hart, source: Source, mem: &mut [u8], map: &[u64], budget: u64) ->
         let elp = g.elp;
         let ssp = g.ssp;
         let e = plan::plan(from, &g.x, pc, elp, ssp, s, mem, map);
-        commit(mem, e);
+        commit::commit(mem, e);
         from = Source::Fetch;
         left = left - 1;
         match e {

@@ -35,7 +35,8 @@ use Rattle.effect.specs.declared.Whole.the-variants as whole
 use Rattle.status.specs.Mode.{modeOf}
 use Rattle.hart.proofs.Kept.{trap-keeps}
 use Rattle.bank.specs.Regime.{controlOf, settingOf}
-use Rattle.hart.specs.Step.{changedOf, csrOf, wholeOf, applyOf, memoryOf, trapsOf, planOf, stepFrom}
+use Rattle.transfer.specs.Commit.{memoryOf}
+use Rattle.hart.specs.Step.{changedOf, csrOf, wholeOf, applyOf, trapsOf, planOf, stepFrom}
 use Rattle.hart.specs.declared.Hart.{Hart}
 use Rattle.shadow.specs.Promise.{inForce, StandsOnce, Event, quiet, eventOf, NoSwap, NoPointerWrite, Shadow}
 use Rattle.shadow.proofs.Geometry.{Geometry}

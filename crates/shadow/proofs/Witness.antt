@@ -34,7 +34,8 @@ use Rattle.hart.specs.Legal.{legal}
 use Rattle.bank.specs.Regime.{controlOf, shadowOn, padOn, settingOf}
 use Rattle.bank.specs.Setters.{withSatp, withMenvcfg, withSenvcfg}
 use Rattle.hart.specs.Setters.{withPc, withX, withMode, withSsp, withCsrs, startOf}
-use Rattle.hart.specs.Step.{applyOf, memoryOf, trapsOf, planOf, stepFrom}
+use Rattle.transfer.specs.Commit.{memoryOf}
+use Rattle.hart.specs.Step.{applyOf, trapsOf, planOf, stepFrom}
 use Rattle.hart.specs.Trap.{trapOf}
 use Rattle.hart.specs.declared.Hart.{Hart}
 use Rattle.machine.specs.Call.{refusalOf}

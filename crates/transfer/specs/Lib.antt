@@ -1,1 +1,2 @@
 pub mod Access
+pub mod Commit

@@ -1,9 +1,9 @@
--- `hart::run::commit` meets its contract: an effect an arm, its bytes in memory. Assumes nothing.
+-- `transfer::commit::commit` meets its contract: an effect an arm, its bytes in memory. Assumes nothing.
 use native.Mathlib.Omega.{arith}
 use Rattle.effect.proofs.Stays.{fits}
 use borrow.Author.Needs.{needs}
-use Rattle.hart.proofs.run.commit.Statement.{statement}
-use Rattle.hart.proofs.run.commit.Tie as tie
+use Rattle.transfer.proofs.commit.commit.Statement.{statement}
+use Rattle.transfer.proofs.commit.commit.Tie as tie
 
 enum-told : tie.Need-enum-told
 enum-told c = search needs
