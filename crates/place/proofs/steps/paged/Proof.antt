@@ -1,13 +1,17 @@
 -- `place::steps::paged` meets its contract. Assumes nothing.
-use mathlib.Core.Path.{sym, _∙_}
-use Rattle.place.specs.Place.{pagedPlaceOf}
+use mathlib.Core.Path.{_≡_, sym, _∙_}
+use Rattle.page.specs.Map.{lookupOf}
+use Rattle.place.specs.Place.{pageNumber, pagedPlaceOf}
 use borrow.Author.Needs.{needs}
 use Rattle.place.proofs.steps.paged.Statement.{statement}
 use Rattle.place.proofs.steps.paged.Tie as tie
 
 returns : tie.Need-returns
 unfolding pagedPlaceOf
-returns c = rw (sym (c .before .before .before .before .canonical .ensures) ∙ c .before .before .before .if1 .taken, ← c .before .lookup .ensures) (c .through .ensures)
+returns c =
+    let a = c .before .before .before .before .before .before .args in
+    let found : c .before .lookup .result ≡ lookupOf (a .map .now) (pageNumber (a .t .0)) = c .before .lookup .ensures in
+    rw (sym (c .before .before .before .before .canonical .ensures) ∙ c .before .before .before .if1 .taken, ← found) (c .through .ensures)
 
 returns-2 : tie.Need-returns-2
 unfolding pagedPlaceOf

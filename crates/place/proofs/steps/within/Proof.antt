@@ -9,7 +9,7 @@ use Rattle.place.proofs.steps.within.Tie as tie
 
 returns : tie.Need-returns
 unfolding withinOf
-returns c = rw (lt-leb _ _ (c .if1 .taken))
+returns c = rw (lt-leb base _ (c .if1 .taken))
 
 returns-2 : tie.Need-returns-2
 unfolding withinOf
