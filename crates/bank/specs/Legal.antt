@@ -1,7 +1,6 @@
--- Refusal 1, of the mode and the CSRs.
-use mathlib.Core.Bool.{Bool, true, _&&_, _||_}
+-- Refusal 1, of the CSRs.
+use mathlib.Core.Bool.{Bool, true, _&&_}
 use Prim.Native.Nat.{ℕ}
-use lib.Dec.{eqb}
 use Rattle.word.specs.Row.{legalOf}
 use Rattle.csr.specs.Row.{rowOf}
 use Rattle.csr.specs.declared.Csr.{Csr}
@@ -27,7 +26,3 @@ csrsLegal c =
     && (holds Senvcfg (c .senvcfg)
     && (holds Sscratch (c .sscratch)
     && (holds Sepc (c .sepc) && (holds Scause (c .scause) && (holds Stval (c .stval) && (holds Satp (c .satp) && machineLegal c))))))
-
--- the mode is 0, 1 or 3
-abbrev pub isMode : ℕ → Bool
-isMode m = eqb m 0 || (eqb m 1 || eqb m 3)

@@ -1,6 +1,6 @@
 pub mod Setters
 pub mod Access
 pub mod Legal
-pub mod Regime
+pub mod Setting
 pub mod Trap
 pub mod Return

@@ -1,21 +1,10 @@
-// Which CSR an address names, what a read of it shows and what a write leaves.
+// What a read of a CSR shows and what a write leaves.
 use super::Csrs;
 use csr::Csr;
 use csr::access;
 use rights::enable;
-use rights::reach;
-use rights::reach::Reached;
-use status::mode;
 ghost use mathlib.Core.Path.{_≡_};
-ghost use Rattle.bank.specs.Access.{reachedOf, shownOf, writtenOf};
-
-// The CSR that an address names, or illegal, in a mode with these menvcfg and senvcfg.
-pub fn reached(mode: u64, menvcfg: u64, senvcfg: u64, address: u16) -> Reached
-    ensures { λ r. ⌜ r ≡ reachedOf mode menvcfg senvcfg address ⌝ }
-{
-    let m = mode::mode(mode);
-    reach::reach(m, enable::permits(m, menvcfg, senvcfg), address)
-}
+ghost use Rattle.bank.specs.Access.{shownOf, writtenOf};
 
 impl Csrs {
     // What a read of CSR n shows.

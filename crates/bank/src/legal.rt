@@ -1,46 +1,10 @@
-// Refusal 1, of the mode and the CSRs.
+// Refusal 1, of the CSRs.
 use super::Csrs;
 use csr::legal;
+use regime::legal::all;
 use word::choice;
 ghost use mathlib.Core.Path.{_≡_};
-ghost use mathlib.Core.Bool.{_&&_, _||_};
-ghost use Rattle.bank.specs.Legal.{isMode, machineLegal, csrsLegal};
-
-pub fn all(a: bool, b: bool, c: bool, d: bool, e: bool) -> bool
-    ensures { λ r. ⌜ r ≡ (a && (b && (c && (d && e)))) ⌝ }
-{
-    if a {
-        if b {
-            if c {
-                if d {
-                    return e;
-                }
-                return false;
-            }
-            return false;
-        }
-        return false;
-    }
-    false
-}
-
-fn any(a: bool, b: bool, c: bool) -> bool
-    ensures { λ r. ⌜ r ≡ (a || (b || c)) ⌝ }
-{
-    if a {
-        return true;
-    }
-    if b {
-        return true;
-    }
-    c
-}
-
-pub fn is_mode(m: u64) -> bool
-    ensures { λ r. ⌜ r ≡ isMode m ⌝ }
-{
-    any(m == 0, m == 1, m == 3)
-}
+ghost use Rattle.bank.specs.Legal.{machineLegal, csrsLegal};
 
 impl Csrs {
     fn machine_legal(self) -> bool

@@ -1,10 +1,10 @@
 // The control and status registers together, and what needs no more of the hart than them: their words one at a time, which are
-// legal, what a mode and they switch on, and what a trap saves in them.
+// legal, what a mode and they say about an instruction, and what a trap saves in them.
 pub mod access;
 pub mod legal;
-pub mod regime;
 pub mod returns;
 pub mod setters;
+pub mod setting;
 pub mod trap;
 
 // Each CSR's stored word; sstatus is a view of mstatus, and ssp stands in the hart.

@@ -1,31 +1,9 @@
-// Trap entry: where it goes, and what it saves.
+// What a trap saves.
 use super::Csrs;
+use crossing::trap;
 use page::Mode;
-use status::trap;
-use word::shift;
 ghost use mathlib.Core.Path.{_≡_};
-ghost use Rattle.bank.specs.Trap.{delegatedOf, toS, savedM, savedS};
-
-// The cause's bit of medeleg.
-pub fn delegated(medeleg: u64, cause: u64) -> bool
-    ensures { λ r. ⌜ r ≡ delegatedOf medeleg cause ⌝ }
-{
-    if cause < 64 {
-        return shift::right(medeleg, cause) % 2 == 1;
-    }
-    false
-}
-
-// To S if below M and delegated, else M.
-pub fn to_s(m: Mode, delegated: bool) -> bool
-    ensures { λ r. ⌜ r ≡ toS m delegated ⌝ }
-{
-    match m {
-        Mode::User => delegated,
-        Mode::Supervisor => delegated,
-        Mode::Machine => false,
-    }
-}
+ghost use Rattle.bank.specs.Trap.{savedM, savedS};
 
 impl Csrs {
     // What a trap to M saves, of the instruction at pc.

@@ -9,8 +9,8 @@ use Rattle.word.proofs.Choices.{first, second}
 use Rattle.status.specs.Mode.{modeOf}
 use Rattle.status.specs.Status.{statusOf}
 use Rattle.status.specs.declared.Status.{Status}
-use Rattle.status.proofs.Packed.{enter-m-fields, enter-s-fields, leave-m-fields, leave-s-fields}
-use Rattle.bank.specs.Trap.{toS, delegatedOf}
+use Rattle.crossing.proofs.Crossed.{enter-m-fields, enter-s-fields, leave-m-fields, leave-s-fields}
+use Rattle.crossing.specs.Route.{toS, delegatedOf}
 use Rattle.hart.specs.Trap.{trapM, trapS, trapOf}
 use Rattle.hart.specs.Return.{mretOf, sretOf}
 use Rattle.hart.specs.declared.Hart.{Hart}

@@ -18,19 +18,21 @@ use Rattle.status.specs.Fields.{mstatus}
 use Rattle.csr.specs.Row.{eights, fours, word, envcfg, satp, medeleg, mseccfg, rowOf, isView}
 use Rattle.rights.specs.Enable.{sseOf}
 use Rattle.status.specs.Mode.{numberOf, modeOf}
-use Rattle.status.specs.Status.{enterM, enterS, leaveM, leaveS, mppMode, sppMode}
+use Rattle.crossing.specs.Trap.{enterM, enterS}
+use Rattle.crossing.specs.Return.{leaveM, leaveS, mppMode, sppMode}
 use Rattle.csr.specs.declared.Csr.{Csr}
 use Rattle.csr.specs.declared.Csr.the-variants.{Ssp, Sstatus, Stvec, Senvcfg, Sscratch, Sepc, Scause, Stval, Satp, Mstatus, Medeleg, Mtvec, Menvcfg, Mscratch, Mepc, Mcause, Mtval, Mseccfg}
 use Rattle.word.proofs.Rows.{left, kept, each}
 use Rattle.csr.proofs.Made.{all-fit, all-seen, sixty-four, alike}
-use Rattle.status.proofs.Packed.{enter-m-legal, enter-s-legal, leave-m-legal, leave-s-legal}
+use Rattle.crossing.proofs.Crossed.{enter-m-legal, enter-s-legal, leave-m-legal, leave-s-legal}
 use Rattle.bank.specs.Setters.{storedOf, putOf, pointerOf}
 use Rattle.hart.specs.Setters.{withSsp, startOf}
 use Rattle.bank.specs.Access.{writtenOf}
 use Rattle.hart.specs.Access.{csrWriteOf}
-use Rattle.bank.specs.Legal.{holds, csrsLegal, isMode}
+use Rattle.regime.specs.Legal.{isMode}
+use Rattle.bank.specs.Legal.{holds, csrsLegal}
 use Rattle.hart.specs.Legal.{legal}
-use Rattle.bank.specs.Trap.{toS, delegatedOf}
+use Rattle.crossing.specs.Route.{toS, delegatedOf}
 use Rattle.hart.specs.Trap.{trapM, trapS, trapOf}
 use Rattle.hart.specs.Return.{mretOf, sretOf}
 use Rattle.hart.specs.declared.Hart.{Hart}

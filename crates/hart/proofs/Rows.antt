@@ -10,7 +10,8 @@ use Rattle.execute.specs.Instruction.{nextOf, executeOf}
 use Rattle.effect.specs.Jump.{jalrOf}
 use Rattle.execute.specs.Plan.{fetchedOf, landedOf, arrivedOf, effectOf}
 use Rattle.effect.specs.Register.{regOf}
-use Rattle.bank.specs.Regime.{shadowOn, padOn, settingOf}
+use Rattle.regime.specs.Regime.{shadowOn, padOn}
+use Rattle.bank.specs.Setting.{settingOf}
 use Rattle.hart.specs.Setters.{withPc, withElp}
 use Rattle.hart.specs.Step.{Outcome, withReg, stepFrom, stepWordOf}
 use Rattle.hart.specs.Trap.{trapOf}

@@ -29,7 +29,7 @@ use Rattle.effect.specs.declared.Whole.{Whole}
 use Rattle.effect.specs.declared.Whole.the-variants as whole
 use Rattle.hart.specs.Access.{csrReadOf, csrWriteOf}
 use Rattle.hart.specs.Legal.{legal}
-use Rattle.bank.specs.Regime.{settingOf}
+use Rattle.bank.specs.Setting.{settingOf}
 use Rattle.hart.specs.Run.{Run, followed, runFrom}
 use Rattle.hart.specs.Setters.{withPc, withElp, withSsp}
 use Rattle.transfer.specs.Commit.{memoryOf}

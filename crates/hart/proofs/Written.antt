@@ -20,10 +20,12 @@ use Rattle.csr.proofs.Made.{all-fit, sixty-four, alike}
 use Rattle.rights.proofs.Users.{user-ssp}
 use Rattle.bank.specs.Setters.{storedOf, putOf}
 use Rattle.hart.specs.Setters.{withSsp}
-use Rattle.bank.specs.Access.{reachedOf, shownOf, writtenOf}
+use Rattle.regime.specs.Access.{reachedOf}
+use Rattle.bank.specs.Access.{shownOf, writtenOf}
 use Rattle.hart.specs.Access.{csrReadOf, csrWriteOf}
 use Rattle.bank.specs.Legal.{holds}
-use Rattle.bank.specs.Regime.{controlOf, settingOf}
+use Rattle.regime.specs.Regime.{controlOf}
+use Rattle.bank.specs.Setting.{settingOf}
 use Rattle.hart.specs.declared.Hart.{Hart}
 use Rattle.bank.specs.declared.Csrs.{Csrs}
 use Rattle.bank.proofs.Slots.{slotOf, same, other}

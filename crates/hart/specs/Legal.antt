@@ -3,7 +3,8 @@ use mathlib.Core.Bool.{Bool, _&&_}
 use Prim.Native.Nat.{_%_}
 use lib.Dec.{eqb}
 use lib.ListN.{getD}
-use Rattle.bank.specs.Legal.{csrsLegal, isMode}
+use Rattle.regime.specs.Legal.{isMode}
+use Rattle.bank.specs.Legal.{csrsLegal}
 use Rattle.hart.specs.declared.Hart.{Hart}
 
 -- register 0 is 0; pc is a multiple of 4; the mode is 0, 1 or 3; ssp is a multiple of 8; and each CSR holds a value that a

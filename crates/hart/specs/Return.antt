@@ -2,7 +2,8 @@
 use mathlib.Core.Bool.{Bool}
 use Rattle.page.specs.declared.Mode.{Mode}
 use Rattle.status.specs.Mode.{numberOf}
-use Rattle.status.specs.Status.{statusOf, leaveM, leaveS, mppMode, sppMode}
+use Rattle.status.specs.Status.{statusOf}
+use Rattle.crossing.specs.Return.{leaveM, leaveS, mppMode, sppMode}
 use Rattle.bank.specs.Return.{elpAfter}
 use Rattle.bank.specs.Setters.{withMstatus}
 use Rattle.hart.specs.Setters.{withPc, withMode, withElp, withCsrs}

@@ -19,7 +19,7 @@ use Rattle.execute.specs.declared.Source.the-variants.{Fetch, Given}
 use Rattle.effect.specs.declared.Whole.{Whole}
 use Rattle.effect.specs.declared.Whole.the-variants as whole
 use Rattle.hart.specs.Access.{csrReadOf, csrWriteOf}
-use Rattle.bank.specs.Regime.{settingOf}
+use Rattle.bank.specs.Setting.{settingOf}
 use Rattle.hart.specs.Return.{mretOf, sretOf}
 use Rattle.hart.specs.Setters.{withPc, withX, withElp, withSsp}
 use Rattle.hart.specs.Trap.{trapOf}

@@ -3,7 +3,8 @@ use mathlib.Core.Bool.{false}
 use Prim.Native.Nat.{ℕ}
 use Rattle.word.specs.Choice.{pick}
 use Rattle.status.specs.Mode.{modeOf}
-use Rattle.bank.specs.Trap.{delegatedOf, toS, savedM, savedS}
+use Rattle.crossing.specs.Route.{delegatedOf, toS}
+use Rattle.bank.specs.Trap.{savedM, savedS}
 use Rattle.hart.specs.Setters.{withPc, withMode, withElp, withCsrs}
 use Rattle.hart.specs.declared.Hart.{Hart}
 

@@ -1,6 +1,6 @@
 // Refusal 1: the harts that a call takes.
 use super::Hart;
-use bank::legal;
+use regime::legal;
 ghost use mathlib.Core.Path.{_≡_};
 ghost use Rattle.hart.specs.Legal.{legal};
 

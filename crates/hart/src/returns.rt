@@ -1,8 +1,8 @@
 // MRET and SRET.
 use super::Hart;
+use crossing::returns;
 use page::Mode;
 use status::mode;
-use status::returns;
 ghost use mathlib.Core.Path.{_≡_};
 ghost use Rattle.hart.specs.Return.{backIn, mretOf, sretOf};
 

@@ -1,6 +1,6 @@
 // Trap entry.
 use super::Hart;
-use bank::trap;
+use crossing::route;
 use status::mode;
 ghost use mathlib.Core.Path.{_≡_};
 ghost use Rattle.hart.specs.Trap.{trapOf};
@@ -15,7 +15,7 @@ impl Hart {
         let pc = self.pc;
         let elp = self.elp;
         self.elp = false;
-        if trap::to_s(from, trap::delegated(c.medeleg, cause)) {
+        if route::to_s(from, route::delegated(c.medeleg, cause)) {
             self.csrs = c.saved_s(pc, from, elp, cause, tval);
             self.mode = 1;
             self.pc = c.stvec;

@@ -1,6 +1,6 @@
 // Pages: the page map that the host lends, with refusal 3, and what a leaf of it is judged by: the kind of access and the regime.
 //
-// Lookup of a page number and judgement of a leaf (crate `leaf`) are kept apart: how an entry is found can change without a
+// Lookup of a page number and judgement of a leaf (crate `judge`) are kept apart: how an entry is found can change without a
 // word about what it permits.
 
 // What the rules ask of a kind of access.

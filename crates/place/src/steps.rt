@@ -10,7 +10,7 @@ use address::control::Control;
 use address::mask;
 use isa::Width;
 use isa::size;
-use leaf::Verdict;
+use judge::Verdict;
 use page::Kind;
 use page::Regime;
 use page::kinds;
@@ -74,7 +74,7 @@ fn through(f: Found, g: Regime, k: Kind, w: Width, len: u64, t: Virtual) -> Plac
         Found::Absent => Place::Fault(cause::page_fault(k), t.0),
         Found::Leaf(e) => {
             let p = Physical(e / 1024 % 0x1000_0000_0000 * 4096 + t.0 % 4096);
-            settle(leaf::judge(g, k, leaf::bits(e)), k, w, len, p, t)
+            settle(judge::judge(g, k, leaf::bits(e)), k, w, len, p, t)
         }
     }
 }

@@ -27,7 +27,8 @@ use Rattle.effect.specs.declared.Effect.the-variants.{Pop, Trap}
 use Rattle.execute.specs.declared.Source.{Source}
 use Rattle.hart.proofs.Lawful.{lawful, ssp-eight}
 use Rattle.hart.specs.Legal.{legal}
-use Rattle.bank.specs.Regime.{controlOf, shadowOn, settingOf}
+use Rattle.regime.specs.Regime.{controlOf, shadowOn}
+use Rattle.bank.specs.Setting.{settingOf}
 use Rattle.hart.specs.Step.{trapsOf, stepFrom}
 use Rattle.hart.specs.declared.Hart.{Hart}
 use Rattle.machine.proofs.Accepted.{no-refusal}

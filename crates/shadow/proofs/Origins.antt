@@ -56,7 +56,7 @@ use Rattle.transfer.specs.declared.access.Gate.{Gate}
 use Rattle.transfer.specs.declared.access.Gate.the-variants as gate
 use Rattle.execute.specs.declared.plan.Fetched.{Fetched}
 use Rattle.execute.specs.declared.plan.Fetched.the-variants as fetched
-use Rattle.bank.specs.Regime.{settingOf}
+use Rattle.bank.specs.Setting.{settingOf}
 use Rattle.hart.specs.Step.{planOf}
 use Rattle.hart.specs.declared.Hart.{Hart}
 use Rattle.shadow.specs.Promise.{inForce, padStops, PopCheck, Permitted}

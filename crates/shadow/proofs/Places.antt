@@ -13,8 +13,9 @@ use Rattle.word.proofs.Either.{either}
 use Rattle.isa.specs.Size.{sizeOf}
 use Rattle.isa.specs.declared.Width.{Width}
 use Rattle.page.proofs.Entries.{lookup-stands}
-use Rattle.leaf.proofs.Grants.{Held, held, granted}
-use Rattle.leaf.specs.Leaf.{leafOf, shadowPage, judgeOf, accessedDirty}
+use Rattle.judge.proofs.Grants.{Held, held, granted}
+use Rattle.leaf.specs.Leaf.{leafOf, shadowPage}
+use Rattle.judge.specs.Judge.{judgeOf, accessedDirty}
 use Rattle.page.specs.Map.{lookupOf}
 use Rattle.page.specs.declared.Kind.the-variants as kind
 use Rattle.page.specs.declared.Kind.{Kind}
@@ -22,7 +23,7 @@ use Rattle.page.specs.declared.Mode.the-variants.{User}
 use Rattle.page.specs.declared.Mode.{Mode}
 use Rattle.page.specs.declared.Regime.{Regime}
 use Rattle.leaf.specs.declared.Leaf as leaf
-use Rattle.leaf.specs.declared.Verdict.the-variants.{Granted}
+use Rattle.judge.specs.declared.Verdict.the-variants.{Granted}
 use Rattle.page.specs.declared.map.Found.the-variants.{Leaf}
 use Rattle.place.proofs.Reach.{Within, Paged, place-aligned, place-paged, place-in-page, shadow-paged, store-off-shadow}
 use Rattle.address.specs.Align.{alignedOf}

@@ -13,7 +13,7 @@ use Rattle.word.specs.Sign.{signExtendOf}
 use Rattle.word.specs.Sum.{sumOf, differenceOf}
 use Rattle.isa.specs.declared.Width.the-variants.{Double}
 use Rattle.page.proofs.Entries.{lookup-stands}
-use Rattle.leaf.proofs.Grants.{held}
+use Rattle.judge.proofs.Grants.{held}
 use Rattle.leaf.specs.Leaf.{leafOf}
 use Rattle.page.specs.declared.Kind.the-variants as kind
 use Rattle.page.specs.declared.Mode.the-variants.{User}

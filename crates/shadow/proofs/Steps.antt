@@ -34,7 +34,8 @@ use Rattle.effect.specs.declared.Whole.{Whole}
 use Rattle.effect.specs.declared.Whole.the-variants as whole
 use Rattle.status.specs.Mode.{modeOf}
 use Rattle.hart.proofs.Kept.{trap-keeps}
-use Rattle.bank.specs.Regime.{controlOf, settingOf}
+use Rattle.regime.specs.Regime.{controlOf}
+use Rattle.bank.specs.Setting.{settingOf}
 use Rattle.transfer.specs.Commit.{memoryOf}
 use Rattle.hart.specs.Step.{changedOf, csrOf, wholeOf, applyOf, trapsOf, planOf, stepFrom}
 use Rattle.hart.specs.declared.Hart.{Hart}

@@ -16,7 +16,7 @@ use Rattle.isa.specs.declared.Width.the-variants.{Double}
 use Rattle.memory.specs.Bytes.{bytesOf, number, loadOf, storeOf}
 use Rattle.memory.specs.Extend.{extendOf}
 use Rattle.memory.specs.Refusal as memory
-use Rattle.leaf.specs.Leaf.{judgeOf}
+use Rattle.judge.specs.Judge.{judgeOf}
 use Rattle.page.specs.Map as page
 use Rattle.address.specs.Align.{alignedOf}
 use Rattle.address.specs.Control as control
@@ -39,7 +39,8 @@ use Rattle.bank.specs.Access.{shownOf, writtenOf}
 use Rattle.hart.specs.Access.{csrWriteOf}
 use Rattle.bank.specs.Legal.{csrsLegal}
 use Rattle.hart.specs.Legal.{legal}
-use Rattle.bank.specs.Regime.{controlOf, shadowOn, padOn, settingOf}
+use Rattle.regime.specs.Regime.{controlOf, shadowOn, padOn}
+use Rattle.bank.specs.Setting.{settingOf}
 use Rattle.bank.specs.Setters.{withSatp, withSenvcfg}
 use Rattle.hart.specs.Setters.{withPc, withMode, withSsp, withCsrs}
 use Rattle.hart.specs.Step.{withReg, changedOf, csrOf, wholeOf, planOf, stepFrom}

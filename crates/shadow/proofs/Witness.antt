@@ -13,7 +13,7 @@ use Rattle.decoder.specs.System.{systemOf, csrOf}
 use Rattle.decoder.specs.Decode.{decodeOf}
 use Rattle.memory.specs.Bytes.{bytesOf, number, loadOf, storeOf}
 use Rattle.memory.specs.Refusal as memory
-use Rattle.leaf.specs.Leaf.{judgeOf}
+use Rattle.judge.specs.Judge.{judgeOf}
 use Rattle.page.specs.Map as page
 use Rattle.address.specs.Align.{alignedOf}
 use Rattle.address.specs.Control as control
@@ -31,7 +31,8 @@ use Rattle.execute.specs.declared.Source.{Source}
 use Rattle.execute.specs.declared.Source.the-variants.{Fetch}
 use Rattle.bank.specs.Legal.{csrsLegal}
 use Rattle.hart.specs.Legal.{legal}
-use Rattle.bank.specs.Regime.{controlOf, shadowOn, padOn, settingOf}
+use Rattle.regime.specs.Regime.{controlOf, shadowOn, padOn}
+use Rattle.bank.specs.Setting.{settingOf}
 use Rattle.bank.specs.Setters.{withSatp, withMenvcfg, withSenvcfg}
 use Rattle.hart.specs.Setters.{withPc, withX, withMode, withSsp, withCsrs, startOf}
 use Rattle.transfer.specs.Commit.{memoryOf}

@@ -5,12 +5,9 @@ use mathlib.Core.Bool.{Bool, true, false}
 use Prim.Native.Nat.{ℕ, zero, suc, _+_, _*_, _/_, _%_, _^_, _<_}
 use native.Mathlib.Omega.{arith}
 use lib.Dec.{eqb}
-use Rattle.page.specs.declared.Mode.{Mode}
-use Rattle.page.specs.declared.Mode.the-variants.{User, Supervisor, Machine}
 use Rattle.word.specs.Row.{writeOf, readOf, legalOf}
 use Rattle.status.specs.Fields.{isMpp, mstatus, sstatus}
-use Rattle.status.specs.Mode.{numberOf}
-use Rattle.status.specs.Status.{num, statusOf, wordOf, withMpp, mergedOf, throughOf, isSupervisor, trappedM, trappedS, returnedM, returnedS, enterM, enterS, leaveM, leaveS}
+use Rattle.status.specs.Status.{num, statusOf, wordOf, withMpp, mergedOf, throughOf}
 use Rattle.status.specs.declared.Status.{Status}
 use Rattle.word.proofs.Rows.{left, each, shown}
 
@@ -88,52 +85,6 @@ packed s l ok =
 -- a word that mstatus can hold has a mode in MPP
 pub modes : (m : ℕ) → legalOf mstatus m ≡ true → isMpp (statusOf m .mpp) ≡ true
 modes m h = each 10 0 mstatus m h
-
-number-small : (m : Mode) → numberOf m < 4
-number-small User = omega arith
-number-small Supervisor = omega arith
-number-small Machine = omega arith
-
-number-mode : (m : Mode) → isMpp (numberOf m) ≡ true
-number-mode User = refl
-number-mode Supervisor = refl
-number-mode Machine = refl
-
--- a trap to M leaves a word that mstatus can hold, whatever was there
-pub enter-m-legal : (m : ℕ) (from : Mode) (elp : Bool) → legalOf mstatus (enterM m from elp) ≡ true
-unfolding enterM
-enter-m-legal m from elp =
-    packed (trappedM (statusOf m) (numberOf from) elp) (number-small from) (number-mode from)
-
--- a trap to S, MRET and SRET leave one where one was
-pub enter-s-legal : (m : ℕ) (from : Mode) (elp : Bool) → legalOf mstatus m ≡ true → legalOf mstatus (enterS m from elp) ≡ true
-unfolding enterS
-enter-s-legal m from elp h = packed (trappedS (statusOf m) (isSupervisor from) elp) (omega arith) (modes m h)
-
-pub leave-m-legal : (m : ℕ) → legalOf mstatus (leaveM m) ≡ true
-unfolding leaveM
-leave-m-legal m = packed (returnedM (statusOf m)) (omega arith) refl
-
-pub leave-s-legal : (m : ℕ) → legalOf mstatus m ≡ true → legalOf mstatus (leaveS m) ≡ true
-unfolding leaveS
-leave-s-legal m h = packed (returnedS (statusOf m)) (omega arith) (modes m h)
-
--- and their fields are those of the struct
-pub enter-m-fields : (m : ℕ) (from : Mode) (elp : Bool) → statusOf (enterM m from elp) ≡ trappedM (statusOf m) (numberOf from) elp
-unfolding enterM
-enter-m-fields m from elp = unpacked (trappedM (statusOf m) (numberOf from) elp) (number-small from)
-
-pub enter-s-fields : (m : ℕ) (from : Mode) (elp : Bool) → statusOf (enterS m from elp) ≡ trappedS (statusOf m) (isSupervisor from) elp
-unfolding enterS
-enter-s-fields m from elp = unpacked (trappedS (statusOf m) (isSupervisor from) elp) (omega arith)
-
-pub leave-m-fields : (m : ℕ) → statusOf (leaveM m) ≡ returnedM (statusOf m)
-unfolding leaveM
-leave-m-fields m = unpacked (returnedM (statusOf m)) (omega arith)
-
-pub leave-s-fields : (m : ℕ) → statusOf (leaveS m) ≡ returnedS (statusOf m)
-unfolding leaveS
-leave-s-fields m = unpacked (returnedS (statusOf m)) (omega arith)
 
 -- a word that mstatus can hold is all in its fields
 pub whole : (m : ℕ) → m < 2 ^ 64 → legalOf mstatus m ≡ true → wordOf (statusOf m) ≡ m

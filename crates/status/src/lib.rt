@@ -1,10 +1,8 @@
-// mstatus: its fields as a struct and as a word, what a write leaves and a read shows of it, also through sstatus, and what a
-// trap and a return make of it. Modes and their numbers stand here too, since MPP and SPP hold them.
+// mstatus: its fields as a struct and as a word, what a write leaves and a read shows of it, also through sstatus.
+// Modes and their numbers stand here too, since MPP and SPP hold them. What a trap and a return make of it is crate `crossing`'s.
 pub mod access;
 pub mod mode;
-mod pack;
-pub mod returns;
-pub mod trap;
+pub mod pack;
 
 pub struct Status {
     pub sie: bool,

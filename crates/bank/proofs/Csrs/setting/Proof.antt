@@ -1,5 +1,5 @@
 -- `bank::Csrs::setting` meets its contract: field by field. Assumes nothing.
-use Rattle.bank.specs.Regime.{settingOf}
+use Rattle.bank.specs.Setting.{settingOf}
 use borrow.Author.Needs.{needs}
 use Rattle.bank.proofs.Csrs.setting.Statement.{statement}
 use Rattle.bank.proofs.Csrs.setting.Tie as tie

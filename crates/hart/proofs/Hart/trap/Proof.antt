@@ -3,7 +3,7 @@ use mathlib.Core.Path.{_≡_, sym, _∙_}
 use mathlib.Core.Bool.{true, false}
 use Rattle.word.proofs.Choices.{first, second}
 use Rattle.status.specs.Mode.{modeOf}
-use Rattle.bank.specs.Trap.{toS, delegatedOf}
+use Rattle.crossing.specs.Route.{toS, delegatedOf}
 use Rattle.hart.specs.Trap.{trapOf}
 use borrow.Author.Needs.{needs}
 use Rattle.hart.proofs.Hart.trap.Statement.{statement}

@@ -1,0 +1,53 @@
+-- What a trap makes of mstatus.
+use mathlib.Core.Bool.{Bool, true, false}
+use Prim.Native.Nat.{ℕ}
+use Rattle.page.specs.declared.Mode.{Mode}
+use Rattle.page.specs.declared.Mode.the-variants.{User, Supervisor, Machine}
+use Rattle.status.specs.Mode.{numberOf}
+use Rattle.status.specs.Status.{statusOf, wordOf}
+use Rattle.status.specs.declared.Status.{Status}
+
+-- a trap to M saves the mode, the interrupt enable and ELP, and clears the enable
+abbrev pub trappedM : Status → (mode : ℕ) → (elp : Bool) → Status
+trappedM s mode elp = record {
+  sie = s .sie;
+  mie = false;
+  spie = s .spie;
+  mpie = s .mie;
+  spp = s .spp;
+  mpp = mode;
+  mprv = s .mprv;
+  sum = s .sum;
+  mxr = s .mxr;
+  spelp = s .spelp;
+  mpelp = elp;
+}
+
+-- a trap to S saves the mode, the interrupt enable and ELP, and clears the enable
+abbrev pub trappedS : Status → (supervisor elp : Bool) → Status
+trappedS s supervisor elp = record {
+  sie = false;
+  mie = s .mie;
+  spie = s .sie;
+  mpie = s .mpie;
+  spp = supervisor;
+  mpp = s .mpp;
+  mprv = s .mprv;
+  sum = s .sum;
+  mxr = s .mxr;
+  spelp = elp;
+  mpelp = s .mpelp;
+}
+
+-- SPP is one bit: a trap to S comes from S or from U
+abbrev pub isSupervisor : Mode → Bool
+isSupervisor User = false
+isSupervisor Supervisor = true
+isSupervisor Machine = false
+
+-- the same of the word, which is what a hart holds
+unfoldable pub enterM : ℕ → Mode → (elp : Bool) → ℕ
+enterM m mode elp = wordOf (trappedM (statusOf m) (numberOf mode) elp)
+
+unfoldable pub enterS : ℕ → Mode → (elp : Bool) → ℕ
+enterS m mode elp = wordOf (trappedS (statusOf m) (isSupervisor mode) elp)

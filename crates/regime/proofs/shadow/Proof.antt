@@ -1,0 +1,12 @@
+-- `regime::shadow` meets its contract. Assumes nothing.
+use Rattle.regime.specs.Regime.{shadowOn}
+use borrow.Author.Needs.{needs}
+use Rattle.regime.proofs.shadow.Statement.{statement}
+use Rattle.regime.proofs.shadow.Tie as tie
+
+returns : tie.Need-returns
+unfolding shadowOn
+returns c = rw (c .shadow .ensures, c .before .mode .ensures)
+
+pub shadow-spec : {M : Type 1} → statement M
+shadow-spec = tie.close (tie.spec (λ c κs. search needs) (λ c κs. search needs) returns)

@@ -1,0 +1,3 @@
+pub mod Regime
+pub mod Access
+pub mod Legal
