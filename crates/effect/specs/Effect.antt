@@ -1,15 +1,9 @@
 -- What is asked of an effect before it is applied.
-use Prim.Native.Nat.{ℕ, _+_, _≤_}
-use Rattle.isa.specs.Size.{sizeOf}
-use Rattle.isa.specs.declared.Width.{Width}
+use Prim.Native.Nat.{ℕ, _≤_}
 use Rattle.isa.specs.declared.Width.the-variants.{Double}
-use Rattle.place.specs.Place.{base}
+use Rattle.place.specs.Place.{Within}
 use Rattle.effect.specs.declared.Effect.{Effect}
 use Rattle.effect.specs.declared.Effect.the-variants.{Write, Jump, Pad, Store, Push, Pop, Swap, Whole, Trap}
-
--- all bytes of a width from the physical address q on lie in memory of len bytes
-abbrev pub Within : (len : ℕ) → Width → (q : ℕ) → Type 0
-Within len w q = (base ≤ q) × (q + sizeOf w ≤ base + len)
 
 -- what an effect stores lies in memory of len bytes
 abbrev pub Stays : Effect → (len : ℕ) → Type 0

@@ -30,7 +30,8 @@ use Rattle.rights.specs.declared.reach.Reached.the-variants as reached
 use Rattle.transfer.specs.Access.{gateOf, addressOf, readOf, poppedOf, doneOf, atOf, passedOf, accessOf}
 use Rattle.effect.specs.Compute.{conditionOf}
 use Rattle.effect.specs.Csrs.{reachedOf, csrOf}
-use Rattle.effect.specs.Effect.{Within, Stays}
+use Rattle.place.specs.Place.{Within}
+use Rattle.effect.specs.Effect.{Stays}
 use Rattle.execute.specs.Instruction.{executeOf}
 use Rattle.effect.specs.Jump.{evenOf, jalOf, jalrOf, branchOf}
 use Rattle.execute.specs.Plan.{fetchedOf, isPad, landedOf, arrivedOf, effectOf}

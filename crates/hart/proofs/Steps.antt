@@ -13,13 +13,13 @@ use Rattle.isa.specs.declared.CsrOperation.{CsrOperation}
 use Rattle.isa.specs.declared.Width.{Width}
 use Rattle.isa.specs.declared.Width.the-variants.{Double}
 use Rattle.memory.proofs.Stores.{length-store}
-use Rattle.place.specs.Place.{base}
+use Rattle.place.specs.Place.{base, Within}
 use Rattle.place.specs.declared.Physical.{Physical}
 use Rattle.csr.specs.declared.Csr.{Csr}
 use Rattle.execute.proofs.Aligned.{WholeAligned, Aligned, effect-aligned}
 use Rattle.execute.proofs.Stays.{effect-stays}
 use Rattle.effect.specs.Csrs.{mergedOf}
-use Rattle.effect.specs.Effect.{Within, Stays}
+use Rattle.effect.specs.Effect.{Stays}
 use Rattle.effect.specs.declared.Effect.{Effect}
 use Rattle.effect.specs.declared.Effect.the-variants.{Write, Jump, Pad, Store, Push, Pop, Swap, Trap}
 use Rattle.effect.specs.declared.Effect.the-variants as effect

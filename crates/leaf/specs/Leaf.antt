@@ -2,11 +2,8 @@
 use mathlib.Core.Bool.{Bool, _&&_, _||_, not}
 use Prim.Native.Nat.{ℕ, _/_, _%_, _^_}
 use lib.Dec.{eqb}
+use Rattle.word.specs.Row.{bitOf}
 use Rattle.leaf.specs.declared.Leaf.{Leaf}
-
--- bit k of a word
-abbrev pub bitOf : ℕ → ℕ → Bool
-bitOf e k = eqb (e / 2 ^ k % 2) 1
 
 -- V, R, W, X, U, G, A, D in bits 0 to 7; `clear` says that bits 63:54 are 0
 abbrev pub leafOf : ℕ → Leaf

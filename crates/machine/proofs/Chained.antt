@@ -3,12 +3,12 @@
 -- more than a call takes, it is one call (`call-chains`). The second call is taken where the first one was: what a call leaves
 -- passes refusal 1, memory keeps its length, and the map is the same (`left-accepted`, `step-accepted`).
 -- Assumes nothing.
-use mathlib.Core.Bool.{Bool, true, false, not}
+use mathlib.Core.Bool.{Bool, true, false}
 use mathlib.Core.List.{List}
 use mathlib.Core.Path.{_≡_, refl, sym, ap, _∙_}
 use Prim.Native.Nat.{ℕ, _+_, _≤_}
 use native.Mathlib.Omega.{arith}
-use borrow.Author.Tests.{le-ltb, eq-eqb, eqb-true}
+use borrow.Author.Tests.{le-ltb, eq-eqb, eqb-true, not-false}
 use lib.Dec.{eqb, ltb}
 use Rattle.word.specs.Choice.{pick}
 use Rattle.word.proofs.Choices.{first, second}
@@ -53,10 +53,6 @@ within-budget n budget l = rw (le-ltb 1000000 budget l) (same (eqb n 0) refl)
     same true e = sym (eqb-true n 0 e)
     same false e = refl
 
-passes : (b : Bool) → not b ≡ false → b ≡ true
-passes true e = refl
-passes false e = cc
-
 -- one after the other, as runs and as calls
 taken-each : (t : Bool) (r s : Run) → takenWith (onward t r s) ≡ followedBy t (takenWith r) (takenWith s)
 taken-each true r s = refl
@@ -68,7 +64,7 @@ pub left-accepted : (source : Source) (budget : ℕ) (h : Hart) (m map : List �
 unfolding refusalOf
 left-accepted source budget h m map e =
     let (p, q, r) = no-refusal h m map e in
-    rw (run-legal source budget h m map (passes (legal h) p), run-length source budget h m map, q, r)
+    rw (run-legal source budget h m map (not-false (legal h) p), run-length source budget h m map, q, r)
 
 -- nor to what a step leaves, fetched or given
 pub step-accepted : (source : Source) (h : Hart) (m map : List ℕ) → refusalOf h m map ≡ 0
@@ -76,7 +72,7 @@ pub step-accepted : (source : Source) (h : Hart) (m map : List ℕ) → refusalO
 unfolding refusalOf
 step-accepted source h m map e =
     let (p, q, r) = no-refusal h m map e in
-    rw (step-legal source h m map (passes (legal h) p), step-length source h m map, q, r)
+    rw (step-legal source h m map (not-false (legal h) p), step-length source h m map, q, r)
 
 module _ (budget : ℕ) (h : Hart) (m map : List ℕ) where
   -- refusals 1 to 3 decide, where the budget is not too large

@@ -31,7 +31,7 @@ use Rattle.address.specs.Cause.{misalignedOf, accessFaultOf, pageFaultOf}
 use Rattle.address.specs.Control.{modeOf, pagedOf, regimeOf}
 use Rattle.address.specs.Mask.{transformedOf}
 use Rattle.address.specs.declared.control.Control.{Control}
-use Rattle.place.specs.Place.{base, withinOf, insideOf, canonicalOf, pageNumber, physicalOf, settleOf, throughOf, pagedPlaceOf, plainPlaceOf, reachedOf, placeOf}
+use Rattle.place.specs.Place.{base, withinOf, Within, insideOf, canonicalOf, pageNumber, physicalOf, settleOf, throughOf, pagedPlaceOf, plainPlaceOf, reachedOf, placeOf}
 use Rattle.place.specs.declared.Physical.{Physical}
 use Rattle.place.specs.declared.Place.the-variants.{At, Fault}
 use Rattle.place.specs.declared.Place.{Place}
@@ -44,10 +44,6 @@ behind : (b : Bool) (rest : Place) (c t : ℕ) (q : Physical) → pick b rest (F
 behind true rest c t q e = (refl, e)
 behind false rest c t q e = never c t q e
 
--- all bytes of the access lie in memory
-abbrev pub Within : ℕ → Width → Physical → Type 0
-Within len w q = (base ≤ q .0) × (q .0 + sizeOf w ≤ base + len)
-
 -- an access through a page: the leaf that granted it, and where it leads
 pub record Paged (g : Regime) (k : Kind) (w : Width) (t : ℕ) (map : List ℕ) (len : ℕ) (q : Physical) : Type 0 where
   pub leaf : ℕ
@@ -55,16 +51,16 @@ pub record Paged (g : Regime) (k : Kind) (w : Width) (t : ℕ) (map : List ℕ) 
   pub entry : lookupOf map (pageNumber t) ≡ Leaf leaf
   pub granted : judgeOf g k (leafOf leaf) ≡ Granted
   pub frame : q .0 ≡ physicalOf leaf t
-  pub within : Within len w q
+  pub within : Within len w (q .0)
 
 -- an access in M or Bare
 pub record Plain (k : Kind) (w : Width) (t len : ℕ) (q : Physical) : Type 0 where
   pub ordinary : isShadow k ≡ false
   pub same : q .0 ≡ t
-  pub within : Within len w q
+  pub within : Within len w (q .0)
 
 module _ (k : Kind) (w : Width) (len : ℕ) (q : Physical) where
-  inside-at : (p t : ℕ) → insideOf k w len p t ≡ At q → (q .0 ≡ p) × Within len w q
+  inside-at : (p t : ℕ) → insideOf k w len p t ≡ At q → (q .0 ≡ p) × Within len w (q .0)
   unfolding insideOf withinOf
   inside-at p t e =
       let (b, f) = behind (withinOf len p (sizeOf w)) (At (record { 0 = p })) (accessFaultOf k) t q e in
@@ -72,7 +68,7 @@ module _ (k : Kind) (w : Width) (len : ℕ) (q : Physical) where
       let x : p ≡ q .0 = cc in
       (sym x, (rw (← x) (leb-true base p l), rw (← x) (leb-true (p + sizeOf w) (base + len) u)))
 
-  settle-at : (v : Verdict) (p t : ℕ) → settleOf v k w len p t ≡ At q → (v ≡ Granted) × (q .0 ≡ p) × Within len w q
+  settle-at : (v : Verdict) (p t : ℕ) → settleOf v k w len p t ≡ At q → (v ≡ Granted) × (q .0 ≡ p) × Within len w (q .0)
   unfolding settleOf
   settle-at Granted p t e =
       let (s, i) = inside-at p t e in
@@ -141,10 +137,10 @@ module _ (c : Control) (k : Kind) (w : Width) (a : ℕ) (map : List ℕ) (len : 
   place-plain p = plain-at k w len q t (sym (second (pagedOf m (c .sv39)) paged plain p) ∙ reached .1)
 
   -- all bytes of the access lie in memory
-  pub place-within : Within len w q
+  pub place-within : Within len w (q .0)
   place-within = go (pagedOf m (c .sv39)) refl
     where
-      go : (b : Bool) → pagedOf m (c .sv39) ≡ b → Within len w q
+      go : (b : Bool) → pagedOf m (c .sv39) ≡ b → Within len w (q .0)
       go true p = place-paged p .within
       go false p = place-plain p .within
 

@@ -5,7 +5,7 @@
 -- one, which is also tval, p the physical one, and len the number of bytes of memory.
 use mathlib.Core.Bool.{Bool, _&&_}
 use mathlib.Core.List.{List}
-use Prim.Native.Nat.{ℕ, _+_, _-_, _*_, _/_, _%_, _^_}
+use Prim.Native.Nat.{ℕ, _+_, _-_, _*_, _/_, _%_, _^_, _≤_}
 use lib.Dec.{eqb, leb}
 use Rattle.word.specs.Choice.{pick}
 use Rattle.isa.specs.Size.{sizeOf}
@@ -36,6 +36,10 @@ base = 0x80000000
 -- all n bytes from p on lie in memory
 unfoldable pub withinOf : (len p n : ℕ) → Bool
 withinOf len p n = leb base p && leb (p + n) (base + len)
+
+-- the same of the bytes of a width from p on, as a proposition: what an access asks
+abbrev pub Within : (len : ℕ) → Width → (p : ℕ) → Type 0
+Within len w p = (base ≤ p) × (p + sizeOf w ≤ base + len)
 
 -- step 9: a byte outside memory is an access fault
 unfoldable pub insideOf : Kind → Width → (len p t : ℕ) → Place

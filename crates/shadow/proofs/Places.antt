@@ -25,18 +25,18 @@ use Rattle.page.specs.declared.Regime.{Regime}
 use Rattle.leaf.specs.declared.Leaf as leaf
 use Rattle.judge.specs.declared.Verdict.the-variants.{Granted}
 use Rattle.page.specs.declared.map.Found.the-variants.{Leaf}
-use Rattle.place.proofs.Reach.{Within, Paged, place-aligned, place-paged, place-in-page, shadow-paged, store-off-shadow}
+use Rattle.place.proofs.Reach.{Paged, place-aligned, place-paged, place-in-page, shadow-paged, store-off-shadow}
 use Rattle.address.specs.Align.{alignedOf}
 use Rattle.address.specs.Control.{modeOf, pagedOf, regimeOf}
 use Rattle.address.specs.Mask.{maskedOf, transformedOf}
-use Rattle.place.specs.Place.{base, frameOf, withinOf, insideOf, physicalOf, settleOf, throughOf, pagedPlaceOf, reachedOf, placeOf}
+use Rattle.place.specs.Place.{base, frameOf, withinOf, Within, insideOf, physicalOf, settleOf, throughOf, pagedPlaceOf, reachedOf, placeOf}
 use Rattle.place.specs.declared.Physical.{Physical}
 use Rattle.address.specs.declared.control.Control.{Control}
 use Rattle.place.specs.declared.Place.the-variants.{At}
 use Rattle.shadow.specs.Promise.{Entry, Shadow, StandsOnce, ValidLeaf, ValidShadow, leafAt}
 
 -- the bytes lie in memory, so step 9 gives the place
-within : (k : Kind) (w : Width) (len p t : ℕ) (q : Physical) → q .0 ≡ p → Within len w q → insideOf k w len p t ≡ At q
+within : (k : Kind) (w : Width) (len p t : ℕ) (q : Physical) → q .0 ≡ p → Within len w (q .0) → insideOf k w len p t ≡ At q
 unfolding insideOf withinOf
 within k w len p t q e i = rw (← e, le-leb base (q .0) (i .0), le-leb (q .0 + sizeOf w) (base + len) (i .1))
 

@@ -18,10 +18,10 @@ use Rattle.leaf.specs.Leaf.{leafOf}
 use Rattle.page.specs.declared.Kind.the-variants as kind
 use Rattle.page.specs.declared.Mode.the-variants.{User}
 use Rattle.page.specs.declared.Mode.{Mode}
-use Rattle.place.proofs.Reach.{Within, Paged, place-aligned, place-paged, shadow-paged}
+use Rattle.place.proofs.Reach.{Paged, place-aligned, place-paged, shadow-paged}
 use Rattle.address.specs.Control.{modeOf, regimeOf}
 use Rattle.address.specs.Mask.{pmlenOf, maskOf, transformedOf}
-use Rattle.place.specs.Place.{base, frameOf, canonicalOf, pageNumber, reachedOf, placeOf}
+use Rattle.place.specs.Place.{base, frameOf, Within, canonicalOf, pageNumber, reachedOf, placeOf}
 use Rattle.place.specs.declared.Physical.{Physical}
 use Rattle.address.specs.declared.control.Control.{Control}
 use Rattle.place.specs.declared.Place.{Place}
@@ -84,7 +84,7 @@ module _ (c : Control) (map : List ℕ) (len : ℕ) (user : c .mode ≡ User) (s
     number : getD map (2 * entry) 0 ≡ pageNumber (virtual a)
     frame : q .0 ≡ frameOf (leafAt map entry) * 4096 + virtual a % 4096
     aligned : virtual a % 8 ≡ 0
-    within : Within len Double q
+    within : Within len Double (q .0)
 
   paged : (a : ℕ) (q : Physical) → slot a ≡ At q → Paged (regimeOf c m) kind.Pop Double (virtual a) map len q
   paged a q e =

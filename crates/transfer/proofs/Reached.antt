@@ -5,8 +5,7 @@ use Prim.Native.Nat.{ℕ, _+_, _-_, _≤_}
 use native.Mathlib.Omega.{arith}
 use Rattle.isa.specs.Size.{sizeOf, widthOf}
 use Rattle.isa.specs.declared.Access.{Access}
-use Rattle.place.specs.Place.{base}
-use Rattle.effect.specs.Effect.{Within}
+use Rattle.place.specs.Place.{base, Within}
 
 -- an access k that is l has its bytes within memory's length, at the index of its place
 pub index-in : (len q i : ℕ) (k l : Access) → k ≡ l → i ≡ q - base → Within len (widthOf k) q → i + sizeOf (widthOf l) ≤ len

@@ -18,7 +18,7 @@ ghost use lib.ListN.{length};
 ghost use Rattle.isa.specs.Size.{widthOf};
 ghost use Rattle.place.specs.declared.Physical.{Physical};
 ghost use Rattle.place.specs.declared.Place.the-variants.{At};
-ghost use Rattle.effect.specs.Effect.{Within};
+ghost use Rattle.place.specs.Place.{Within};
 ghost use Rattle.transfer.specs.Access.{zimopGate, swapGate, gateOf, addressOf, poppedOf, doneOf, atOf, accessOf};
 
 // Whether an instruction makes its access, is a Zimop word that is off, or is illegal.
