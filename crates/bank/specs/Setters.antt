@@ -1,5 +1,7 @@
--- The only literals of the Csrs, but a hart's to start from: with one word changed, and the word that a CSR stores.
+-- The only literals of the Csrs, but a hart's to start from: with one word changed, from words, and the word that a CSR stores.
+use mathlib.Core.List.{List}
 use Prim.Native.Nat.{ℕ}
+use lib.ListN.{getD}
 use Rattle.csr.specs.declared.Csr.{Csr}
 use Rattle.csr.specs.declared.Csr.the-variants.{Ssp, Sstatus, Stvec, Senvcfg, Sscratch, Sepc, Scause, Stval, Satp, Mstatus, Medeleg, Mtvec, Menvcfg, Mscratch, Mepc, Mcause, Mtval, Mseccfg}
 use Rattle.bank.specs.declared.Csrs.{Csrs}
@@ -386,3 +388,24 @@ pointerOf Mepc w ssp = ssp
 pointerOf Mcause w ssp = ssp
 pointerOf Mtval w ssp = ssp
 pointerOf Mseccfg w ssp = ssp
+
+-- the CSRs of a hart's twenty words: the fifth word and those after it, in the order of the Csrs' fields
+abbrev pub csrsOf : (rest : List ℕ) → Csrs
+csrsOf rest = record {
+  stvec = getD rest 4 0;
+  senvcfg = getD rest 5 0;
+  sscratch = getD rest 6 0;
+  sepc = getD rest 7 0;
+  scause = getD rest 8 0;
+  stval = getD rest 9 0;
+  satp = getD rest 10 0;
+  mstatus = getD rest 11 0;
+  medeleg = getD rest 12 0;
+  mtvec = getD rest 13 0;
+  menvcfg = getD rest 14 0;
+  mscratch = getD rest 15 0;
+  mepc = getD rest 16 0;
+  mcause = getD rest 17 0;
+  mtval = getD rest 18 0;
+  mseccfg = getD rest 19 0;
+}

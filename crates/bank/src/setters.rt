@@ -2,7 +2,7 @@
 use super::Csrs;
 use csr::Csr;
 ghost use mathlib.Core.Path.{_≡_};
-ghost use Rattle.bank.specs.Setters.{storedOf, putOf, pointerOf, withStvec, withSenvcfg, withSscratch, withSepc, withScause, withStval, withSatp, withMstatus, withMedeleg, withMtvec, withMenvcfg, withMscratch, withMepc, withMcause, withMtval, withMseccfg};
+ghost use Rattle.bank.specs.Setters.{storedOf, putOf, pointerOf, withStvec, withSenvcfg, withSscratch, withSepc, withScause, withStval, withSatp, withMstatus, withMedeleg, withMtvec, withMenvcfg, withMscratch, withMepc, withMcause, withMtval, withMseccfg, csrsOf};
 
 impl Csrs {
     pub fn with_stvec(mut self, v: u64) -> Csrs
@@ -193,5 +193,29 @@ pub fn pointer(n: Csr, w: u64, ssp: u64) -> u64
         Csr::Mcause => ssp,
         Csr::Mtval => ssp,
         Csr::Mseccfg => ssp,
+    }
+}
+
+// The CSRs of a hart's twenty words: the fifth word and those after it.
+pub fn of_words(rest: &[u64; 20]) -> Csrs
+    ensures { λ r. ⌜ r ≡ csrsOf (now (rest .entry)) ⌝ }
+{
+    Csrs {
+        stvec: rest[4],
+        senvcfg: rest[5],
+        sscratch: rest[6],
+        sepc: rest[7],
+        scause: rest[8],
+        stval: rest[9],
+        satp: rest[10],
+        mstatus: rest[11],
+        medeleg: rest[12],
+        mtvec: rest[13],
+        menvcfg: rest[14],
+        mscratch: rest[15],
+        mepc: rest[16],
+        mcause: rest[17],
+        mtval: rest[18],
+        mseccfg: rest[19],
     }
 }

@@ -1,10 +1,12 @@
--- The only literals of a Hart: with one field changed, and one to start from.
+-- The only literals of a Hart: with one field changed, from words, and one to start from.
 use mathlib.Core.Bool.{Bool, false}
 use mathlib.Core.List.{List}
 use Prim.Native.Nat.{ℕ}
-use lib.ListN.{replicate}
+use lib.Dec.{eqb}
+use lib.ListN.{getD, replicate}
 use Rattle.hart.specs.declared.Hart.{Hart}
 use Rattle.bank.specs.declared.Csrs.{Csrs}
+use Rattle.bank.specs.Setters.{csrsOf}
 
 abbrev pub withPc : ℕ → Hart → Hart
 withPc v h = record { pc = v; x = h .x; mode = h .mode; elp = h .elp; ssp = h .ssp; csrs = h .csrs }
@@ -23,6 +25,17 @@ withSsp v h = record { pc = h .pc; x = h .x; mode = h .mode; elp = h .elp; ssp =
 
 abbrev pub withCsrs : Csrs → Hart → Hart
 withCsrs v h = record { pc = h .pc; x = h .x; mode = h .mode; elp = h .elp; ssp = h .ssp; csrs = v }
+
+-- the hart of the thirty-two words of x and the twenty of rest: pc, mode, elp (1 where a landing pad is expected), ssp, the CSRs
+abbrev pub hartOf : (x rest : List ℕ) → Hart
+hartOf x rest = record {
+  pc = getD rest 0 0;
+  x = x;
+  mode = getD rest 1 0;
+  elp = eqb (getD rest 2 0) 1;
+  ssp = getD rest 3 0;
+  csrs = csrsOf rest;
+}
 
 -- a hart to start from: in M at address 0, and nothing set; UXL and SXL are 2
 abbrev pub startOf : Hart

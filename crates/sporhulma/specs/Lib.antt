@@ -1,0 +1,3 @@
+pub mod Boundary
+pub mod Family
+pub mod Words

@@ -1,0 +1,153 @@
+//! The proved simulator, safely: the calls of include/sporhulma.h over slices that Rust has checked.
+//!
+//! This is the only crate of `host/` with `unsafe`: a reference and a slice give what the header asks of its pointers.
+
+/// Indices into a hart's words `rest`.
+pub mod word {
+    pub const PC: usize = 0;
+    pub const MODE: usize = 1;
+    pub const ELP: usize = 2;
+    pub const SSP: usize = 3;
+    pub const STVEC: usize = 4;
+    pub const SENVCFG: usize = 5;
+    pub const SSCRATCH: usize = 6;
+    pub const SEPC: usize = 7;
+    pub const SCAUSE: usize = 8;
+    pub const STVAL: usize = 9;
+    pub const SATP: usize = 10;
+    pub const MSTATUS: usize = 11;
+    pub const MEDELEG: usize = 12;
+    pub const MTVEC: usize = 13;
+    pub const MENVCFG: usize = 14;
+    pub const MSCRATCH: usize = 15;
+    pub const MEPC: usize = 16;
+    pub const MCAUSE: usize = 17;
+    pub const MTVAL: usize = 18;
+    pub const MSECCFG: usize = 19;
+}
+
+/// The names of the words `rest`, in order.
+pub const REST: [&str; 20] = [
+    "pc", "mode", "elp", "ssp", "stvec", "senvcfg", "sscratch", "sepc", "scause", "stval", "satp",
+    "mstatus", "medeleg", "mtvec", "menvcfg", "mscratch", "mepc", "mcause", "mtval", "mseccfg",
+];
+
+/// The physical address of memory's first byte.
+pub const BASE: u64 = 0x8000_0000;
+
+/// mstatus with nothing set: UXL and SXL read 2.
+pub const MSTATUS_CLEAR: u64 = 0xA_0000_0000;
+
+/// The largest budget that a run takes.
+pub const MOST_STEPS: u64 = 1_000_000;
+
+/// A hart, as the words that cross the boundary.
+#[derive(Clone, Copy, PartialEq, Eq, Debug)]
+pub struct Hart {
+    pub x: [u64; 32],
+    pub rest: [u64; 20],
+}
+
+impl Hart {
+    /// A hart that no call refuses: in M at memory's first byte, and nothing set.
+    pub fn fresh() -> Hart {
+        let mut rest = [0; 20];
+        rest[word::PC] = BASE;
+        rest[word::MODE] = 3;
+        rest[word::MSTATUS] = MSTATUS_CLEAR;
+        Hart { x: [0; 32], rest }
+    }
+}
+
+/// What a call answers. `refusal` is 0 where the call was taken; else nothing was changed, and the other fields are 0.
+#[derive(Clone, Copy, PartialEq, Eq, Debug)]
+pub struct Answer {
+    pub refusal: u64,
+    /// Steps taken, the trapping one included.
+    pub count: u64,
+    pub trapped: bool,
+    /// The cause of the trap, and 0 where there was none.
+    pub cause: u64,
+}
+
+impl Answer {
+    fn of(refusal: u64, words: [u64; 3]) -> Answer {
+        Answer {
+            refusal,
+            count: words[0],
+            trapped: words[1] != 0,
+            cause: words[2],
+        }
+    }
+}
+
+// Arrays go by pointer, slices as a pointer and a length.
+#[rustfmt::skip]
+extern "C" {
+    fn sporhulma_step(x: *mut u64, rest: *mut u64, mem: *mut u8, mem_len: usize, map: *const u64, map_len: usize, answer: *mut u64) -> u64;
+    fn sporhulma_step_word(x: *mut u64, rest: *mut u64, mem: *mut u8, mem_len: usize, map: *const u64, map_len: usize, word: u32, answer: *mut u64) -> u64;
+    fn sporhulma_run(x: *mut u64, rest: *mut u64, mem: *mut u8, mem_len: usize, map: *const u64, map_len: usize, budget: u64, answer: *mut u64) -> u64;
+    fn sporhulma_family(word: u32) -> u64;
+}
+
+/// One step, which fetches at pc.
+pub fn step(h: &mut Hart, mem: &mut [u8], map: &[u64]) -> Answer {
+    let mut answer = [0; 3];
+    // SAFETY: each pointer is a reference's or a slice's own, with its length; they do not overlap, since each is borrowed apart.
+    let refusal = unsafe {
+        sporhulma_step(
+            h.x.as_mut_ptr(),
+            h.rest.as_mut_ptr(),
+            mem.as_mut_ptr(),
+            mem.len(),
+            map.as_ptr(),
+            map.len(),
+            answer.as_mut_ptr(),
+        )
+    };
+    Answer::of(refusal, answer)
+}
+
+/// One step with a given word, as if it had been fetched at pc.
+pub fn step_word(h: &mut Hart, mem: &mut [u8], map: &[u64], word: u32) -> Answer {
+    let mut answer = [0; 3];
+    // SAFETY: as in `step`.
+    let refusal = unsafe {
+        sporhulma_step_word(
+            h.x.as_mut_ptr(),
+            h.rest.as_mut_ptr(),
+            mem.as_mut_ptr(),
+            mem.len(),
+            map.as_ptr(),
+            map.len(),
+            word,
+            answer.as_mut_ptr(),
+        )
+    };
+    Answer::of(refusal, answer)
+}
+
+/// Steps up to and including the first that traps, or until the budget, at most [`MOST_STEPS`], is spent.
+pub fn run(h: &mut Hart, mem: &mut [u8], map: &[u64], budget: u64) -> Answer {
+    let mut answer = [0; 3];
+    // SAFETY: as in `step`.
+    let refusal = unsafe {
+        sporhulma_run(
+            h.x.as_mut_ptr(),
+            h.rest.as_mut_ptr(),
+            mem.as_mut_ptr(),
+            mem.len(),
+            map.as_ptr(),
+            map.len(),
+            budget,
+            answer.as_mut_ptr(),
+        )
+    };
+    Answer::of(refusal, answer)
+}
+
+/// The decoder's verdict: 0 for a word that is no instruction of the hart, else its family (include/sporhulma.h lists them).
+pub fn family(word: u32) -> u64 {
+    // SAFETY: it takes a number and gives one.
+    unsafe { sporhulma_family(word) }
+}
