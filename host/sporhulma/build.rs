@@ -8,9 +8,13 @@ fn main() {
     let library = folder.join("libsporhulma.a");
     println!("cargo:rerun-if-changed={}", library.display());
     if !library.exists() {
-        eprintln!("{} is not there: run tools/library first", library.display());
+        eprintln!(
+            "{} is not there: run tools/library first",
+            library.display()
+        );
         std::process::exit(1);
     }
     println!("cargo:rustc-link-search=native={}", folder.display());
     println!("cargo:rustc-link-lib=static=sporhulma");
+    println!("cargo:rustc-link-lib=static=family");
 }

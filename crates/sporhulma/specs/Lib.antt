@@ -1,3 +1,2 @@
 pub mod Boundary
-pub mod Family
 pub mod Words

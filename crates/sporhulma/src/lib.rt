@@ -10,9 +10,6 @@ ghost use mathlib.Core.List.{[], _∷_};
 ghost use Rattle.sporhulma.specs.Words.{flagOf, restOf, noHart};
 ghost use Rattle.sporhulma.specs.Boundary.{stepLeft, stepWordLeft, runLeft};
 
-// The decoder's verdict.
-mod family;
-
 fn flag(b: bool) -> u64
     ensures { λ r. ⌜ r ≡ flagOf b ⌝ }
 {

@@ -1,0 +1,2 @@
+-- The laws of the boundary.
+pub mod Kept

@@ -1,0 +1,78 @@
+//! `tools/bench`: millions of instructions a second of `sporhulma_run` and of the second simulator, on the same programs in the same
+//! run. Each figure is the best of several turns, which the two take one after the other, so that a busy machine harms both alike.
+
+mod encode;
+mod programs;
+
+use programs::Program;
+use sporhulma::MOST_STEPS;
+use std::process::ExitCode;
+use std::time::Instant;
+
+const USAGE: &str = "usage: tools/bench [MILLIONS] [TURNS]: instructions a turn in millions (1 to 1000, default 20), turns (1 to 100, default 5)";
+
+/// Calls `run` until it has taken `steps` instructions in all, and gives millions a second.
+fn speed(steps: u64, mut run: impl FnMut(u64) -> u64) -> f64 {
+    let start = Instant::now();
+    let mut taken = 0;
+    while taken < steps {
+        taken += run(MOST_STEPS.min(steps - taken));
+    }
+    taken as f64 / start.elapsed().as_secs_f64() / 1e6
+}
+
+fn proved(p: &Program, steps: u64) -> f64 {
+    let (mut hart, mut memory) = (p.hart, p.memory.clone());
+    speed(steps, |budget| {
+        let a = sporhulma::run(&mut hart, &mut memory, &p.map, budget);
+        assert_eq!(a.refusal, 0, "{}: refused", p.name);
+        a.count
+    })
+}
+
+fn second(p: &Program, steps: u64) -> f64 {
+    let mut hart = second::Hart::from_words(&p.hart.x, &p.hart.rest);
+    let mut memory = p.memory.clone();
+    speed(steps, |budget| {
+        let a = second::run(&mut hart, &mut memory, &p.map, budget);
+        assert_eq!(a.refusal, 0, "{}: refused", p.name);
+        a.count
+    })
+}
+
+fn number(text: Option<&String>, most: u64, default: u64) -> Option<u64> {
+    match text {
+        None => Some(default),
+        Some(t) => t.parse().ok().filter(|n| (1..=most).contains(n)),
+    }
+}
+
+fn main() -> ExitCode {
+    let words: Vec<String> = std::env::args().skip(1).collect();
+    let given = (
+        number(words.first(), 1000, 20),
+        number(words.get(1), 100, 5),
+    );
+    let ((Some(millions), Some(turns)), true) = (given, words.len() <= 2) else {
+        eprintln!("bench: {:?} is not what it takes; {USAGE}", words.join(" "));
+        return ExitCode::from(2);
+    };
+    println!("Millions of instructions a second, best of {turns} turns of {millions} million");
+    println!(
+        "{:<40} {:>9} {:>9} {:>7}",
+        "program", "sporhulma", "second", "ratio"
+    );
+    for p in programs::all() {
+        let (mut ours, mut theirs) = (0.0f64, 0.0f64);
+        for _ in 0..turns {
+            ours = ours.max(proved(&p, millions * 1_000_000));
+            theirs = theirs.max(second(&p, millions * 1_000_000));
+        }
+        println!(
+            "{:<40} {ours:>9.1} {theirs:>9.1} {:>7.2}",
+            p.name,
+            ours / theirs
+        );
+    }
+    ExitCode::SUCCESS
+}

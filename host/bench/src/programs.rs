@@ -1,0 +1,171 @@
+//! The five programs of the table, each with its hart, memory and page map. None of them ends: the benchmark decides how many
+//! instructions it takes.
+
+use crate::encode::*;
+use sporhulma::{word, Hart, BASE};
+
+/// Leaf bits: valid, accessed and dirty; and what a page may do.
+const VAD: u64 = 0xC1;
+const R: u64 = 0x02;
+const W: u64 = 0x04;
+const X: u64 = 0x08;
+const U: u64 = 0x10;
+
+const PAGE: usize = 4096;
+
+pub struct Program {
+    pub name: &'static str,
+    pub hart: Hart,
+    pub memory: Vec<u8>,
+    pub map: Vec<u64>,
+}
+
+/// In M at memory's first byte, with the code there and one page of data behind it (its address in x2).
+fn bare(name: &'static str, code: &[u32]) -> Program {
+    let mut hart = Hart::fresh();
+    hart.x[2] = BASE + PAGE as u64;
+    let mut memory = vec![0; 2 * PAGE];
+    place(&mut memory, 0, code);
+    let map = Vec::new();
+    Program {
+        name,
+        hart,
+        memory,
+        map,
+    }
+}
+
+fn place(memory: &mut [u8], at: usize, code: &[u32]) {
+    for (k, word) in code.iter().enumerate() {
+        memory[at + 4 * k..at + 4 * k + 4].copy_from_slice(&word.to_le_bytes());
+    }
+}
+
+pub fn registers() -> Program {
+    bare(
+        "register loop",
+        &[
+            addi(5, 5, 1),
+            add(6, 6, 5),
+            xor(7, 7, 6),
+            slli(8, 7, 3),
+            srli(9, 8, 5),
+            sltu(10, 9, 6),
+            addw(11, 11, 10),
+            xori(12, 11, 0x55),
+            addi(13, 13, -1),
+            bne(5, 0, -36),
+        ],
+    )
+}
+
+pub fn loads_and_stores() -> Program {
+    bare(
+        "load/store loop",
+        &[
+            load(3, 5, 2, 0),
+            addi(5, 5, 1),
+            store(3, 5, 2, 0),
+            load(2, 6, 2, 8),
+            add(6, 6, 5),
+            store(2, 6, 2, 8),
+            load(4, 7, 2, 16),
+            xori(7, 7, 1),
+            store(0, 7, 2, 16),
+            bne(5, 0, -36),
+        ],
+    )
+}
+
+/// A call into a function that pushes its return address on both stacks and calls another one that does so too.
+fn calls_code() -> Vec<u32> {
+    vec![
+        // the loop
+        jal(1, 12),
+        addi(5, 5, 1),
+        jal(0, -8),
+        // outer
+        SSPUSH_X1,
+        addi(2, 2, -16),
+        store(3, 1, 2, 8),
+        jal(1, 24),
+        load(3, 1, 2, 8),
+        addi(2, 2, 16),
+        SSPOPCHK_X1,
+        jalr(0, 1, 0),
+        addi(0, 0, 0),
+        // inner, which keeps its own return address too
+        SSPUSH_X1,
+        addi(6, 6, 1),
+        SSPOPCHK_X1,
+        jalr(0, 1, 0),
+    ]
+}
+
+/// In U under Sv39 with both shadow enables. Of the map's entries four are used, spread over it: code, data, stack and shadow stack.
+pub fn calls(name: &'static str, entries: usize) -> Program {
+    let used = [0, entries / 3, 2 * entries / 3, entries - 1];
+    let page = |k: usize| 0x10 + used[k] as u64;
+    let rights = [R | X, R | W, R | W, W];
+    let map = (0..entries)
+        .flat_map(|n| {
+            let own = used.iter().position(|&u| u == n);
+            let frame = BASE / PAGE as u64 + own.unwrap_or(1) as u64;
+            let may = rights[own.unwrap_or(1)];
+            [0x10 + n as u64, (frame << 10) | VAD | U | may]
+        })
+        .collect();
+    let mut hart = Hart::fresh();
+    hart.rest[word::MODE] = 0;
+    hart.rest[word::SATP] = 8 << 60;
+    hart.rest[word::MENVCFG] = 8;
+    hart.rest[word::SENVCFG] = 8;
+    hart.rest[word::PC] = page(0) * PAGE as u64;
+    hart.x[2] = (page(2) + 1) * PAGE as u64;
+    hart.rest[word::SSP] = (page(3) + 1) * PAGE as u64;
+    let mut memory = vec![0; 4 * PAGE];
+    place(&mut memory, 0, &calls_code());
+    Program {
+        name,
+        hart,
+        memory,
+        map,
+    }
+}
+
+/// CSR reads and writes in M, and an environment call whose handler returns behind it. A run ends at each trap.
+pub fn csrs_and_traps() -> Program {
+    const MSCRATCH: u32 = 0x340;
+    const MEPC: u32 = 0x341;
+    const SSCRATCH: u32 = 0x140;
+    let mut program = bare(
+        "CSR and trap loop",
+        &[
+            csr(1, 5, MSCRATCH, 6),
+            csr(2, 6, SSCRATCH, 0),
+            addi(6, 6, 1),
+            csr(1, 0, SSCRATCH, 6),
+            csr(3, 7, MSCRATCH, 6),
+            ECALL,
+            addi(8, 8, 1),
+            jal(0, -28),
+        ],
+    );
+    let handler = 0x100;
+    let code = [csr(2, 9, MEPC, 0), addi(9, 9, 4), csr(1, 0, MEPC, 9), MRET];
+    place(&mut program.memory, handler, &code);
+    program.hart.rest[word::MTVEC] = BASE + handler as u64;
+    // MPP is M, so that MRET comes back to M
+    program.hart.rest[word::MSTATUS] |= 3 << 11;
+    program
+}
+
+pub fn all() -> Vec<Program> {
+    vec![
+        registers(),
+        loads_and_stores(),
+        calls("calls, shadow stack, Sv39, 4 entries", 4),
+        calls("calls, shadow stack, Sv39, 64 entries", 64),
+        csrs_and_traps(),
+    ]
+}

@@ -1,0 +1,37 @@
+//! The controller's image and its symbols, both made by examples/torque/build from torque.s.
+
+/// The code, to be placed at the start of memory.
+pub const IMAGE: &[u8] = include_bytes!("../../../examples/torque/torque.bin");
+
+/// Lines of a value in hex and a name: addresses in the code, and the constants of the source.
+const SYMBOLS: &str = include_str!("../../../examples/torque/torque.sym");
+
+fn symbols() -> impl Iterator<Item = (u64, &'static str)> {
+    SYMBOLS.lines().filter_map(|line| {
+        let (value, name) = line.split_once(' ')?;
+        Some((
+            u64::from_str_radix(value.strip_prefix("0x")?, 16).ok()?,
+            name,
+        ))
+    })
+}
+
+/// The value of a symbol of torque.s.
+pub fn symbol(name: &str) -> Result<u64, String> {
+    symbols()
+        .find(|&(_, known)| known == name)
+        .map(|(value, _)| value)
+        .ok_or_else(|| format!("torque.sym has no symbol {name}; run examples/torque/build"))
+}
+
+/// An address of the code as an engineer reads it: the function it lies in and how far from its start.
+/// Functions have names in small letters without a dot; constants are in capitals, places in a function have dots.
+pub fn place(address: u64) -> String {
+    let function = |name: &str| !name.contains(|c: char| c == '.' || c.is_ascii_uppercase());
+    let below = symbols().filter(|&(start, name)| start <= address && function(name));
+    match below.max_by_key(|&(start, _)| start) {
+        Some((start, name)) if start == address => name.to_string(),
+        Some((start, name)) => format!("{name}+{:#x}", address - start),
+        None => format!("{address:#x}"),
+    }
+}

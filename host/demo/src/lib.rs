@@ -1,0 +1,30 @@
+//! The incident: a sixteen-bit product wraps, becomes a table index, and a store runs over a saved return
+//! address. The controller of examples/torque runs twice on the proved hart, with the shadow stack off and on;
+//! [`run`] says what happened in a dozen lines and draws it.
+
+pub mod image;
+pub mod incident;
+pub mod layout;
+pub mod outcome;
+pub mod stray;
+
+mod chart;
+mod picture;
+mod story;
+mod write;
+
+use incident::Incident;
+use std::io::Write;
+use std::path::Path;
+
+/// Runs the controller both ways, writes the picture to the file `svg` and then the story to `out`.
+/// An error is one line; the picture is then either whole or not there.
+pub fn run(out: &mut dyn Write, svg: &Path) -> Result<(), String> {
+    let incident = Incident::happen()?;
+    let (picture, mut story) = (picture::of(&incident)?, story::of(&incident)?);
+    write::whole(svg, &picture)?;
+    story.push_str(&format!("\nThe picture is in {}.\n", svg.display()));
+    out.write_all(story.as_bytes())
+        .and_then(|()| out.flush())
+        .map_err(|e| format!("cannot write the story: {e}"))
+}

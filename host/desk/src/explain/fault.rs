@@ -1,0 +1,62 @@
+//! An access that a rule of "From address to byte" refused.
+
+use super::{Rows, Verdict};
+use crate::json::Json;
+use crate::names::{mode_name, M};
+use crate::place::Path;
+
+/// The trap of a refused access; none if it was granted.
+pub fn verdict(path: &Path) -> Option<Verdict> {
+    let refused = path.end.as_ref().err()?;
+    let mut rows = rows(path);
+    let why = format!(
+        "by rule {} of \"From address to byte\": {}",
+        refused.rule, refused.why
+    );
+    rows.insert(2, ("refused", why));
+    let facts = vec![
+        ("rule", Json::Number(refused.rule.into())),
+        ("reason", Json::text(refused.why.as_str())),
+        ("access", Json::text(path.access.kind.name())),
+        ("width", Json::Number(path.access.width)),
+        ("address", Json::hex(path.access.address)),
+        ("transformed", Json::hex(path.transformed)),
+        ("effective_mode", Json::text(mode_name(path.mode))),
+        (
+            "entry",
+            path.entry
+                .map_or(Json::Null, |entry| Json::text(entry.text())),
+        ),
+    ];
+    Some(Verdict {
+        cause: refused.cause,
+        tval: path.transformed,
+        rows,
+        facts,
+    })
+}
+
+/// The access as computed, as whom, and the entry that it met.
+fn rows(path: &Path) -> Rows {
+    let access = &path.access;
+    let mut text = format!(
+        "{} of {} bytes at {:#x}",
+        access.kind.name(),
+        access.width,
+        access.address
+    );
+    if path.transformed != access.address {
+        text += &format!(", after masking {:#x}", path.transformed);
+    }
+    let regime = match (path.sv39, path.mode) {
+        (true, _) => "under Sv39",
+        (false, M) => "where addresses are physical",
+        (false, _) => "while satp is Bare, so addresses are physical",
+    };
+    let mut rows = vec![
+        ("access", text),
+        ("as", format!("{} {regime}", mode_name(path.mode))),
+    ];
+    rows.extend(path.entry.map(|entry| entry.row()));
+    rows
+}

@@ -1,0 +1,181 @@
+//! Traps of control flow: landing pads, the shadow stack's pop-check, jump targets, ECALL and EBREAK.
+
+use super::{family, Verdict};
+use crate::bits::{LPE, MLPE, SSE};
+use crate::fields::Fields;
+use crate::json::Json;
+use crate::names::{mode_name, M, S, U};
+use crate::place::Path;
+use crate::state::State;
+use disasm::register;
+use sporhulma::{word, Hart};
+
+/// The active shadow enable of the current mode.
+pub fn shadow_stack_on(hart: &Hart) -> bool {
+    let menvcfg = hart.rest[word::MENVCFG] & SSE != 0;
+    match hart.rest[word::MODE] {
+        U => menvcfg && hart.rest[word::SENVCFG] & SSE != 0,
+        S => menvcfg,
+        _ => false,
+    }
+}
+
+fn pads_on(hart: &Hart) -> bool {
+    let enable = match hart.rest[word::MODE] {
+        U => hart.rest[word::SENVCFG] & LPE,
+        S => hart.rest[word::MENVCFG] & LPE,
+        _ => hart.rest[word::MSECCFG] & MLPE,
+    };
+    enable != 0
+}
+
+/// The trap where a landing pad is expected and another word stands.
+pub fn landing_pad(before: &State, found: u32) -> Option<Verdict> {
+    let hart = &before.hart;
+    let label = hart.x[7] as u32 >> 12;
+    let pad = found & 0xfff == 0x17 && [0, label].contains(&(found >> 12));
+    if hart.rest[word::ELP] == 0 || !pads_on(hart) || pad {
+        return None;
+    }
+    let rows = vec![
+        (
+            "why",
+            "landing pad missing: an indirect jump led here, and ELP expects a pad".into(),
+        ),
+        (
+            "expected",
+            format!(
+                "lpad {label:#x} (t2 = {:#x}), or lpad 0x0, which fits any label",
+                hart.x[7]
+            ),
+        ),
+        (
+            "found",
+            format!("{found:#010x}  {}", disasm::text(found, before.pc())),
+        ),
+    ];
+    let facts = vec![
+        ("expected_label", Json::hex(label.into())),
+        ("found", Json::text(format!("{found:#010x}"))),
+    ];
+    Some(Verdict {
+        cause: 18,
+        tval: 2,
+        rows,
+        facts,
+    })
+}
+
+/// The trap of a pop-check whose register is not what was pushed.
+pub fn mismatch(before: &State, path: &Path, physical: u64, source: usize) -> Option<Verdict> {
+    let used = before.hart.x[source];
+    let pushed = before.bytes(physical, 8);
+    if used == pushed {
+        return None;
+    }
+    let (name, at) = (register(source), path.transformed);
+    let why = "shadow stack mismatch: the return address is not the one that was pushed";
+    let mut rows = vec![
+        ("why", why.into()),
+        (
+            "used",
+            format!("{used:#x} (in {name}: the return would go there)"),
+        ),
+        ("pushed", format!("{pushed:#x} (on the shadow stack)")),
+        (
+            "lies at",
+            format!("virtual {at:#x} (ssp), physical {physical:#x}"),
+        ),
+    ];
+    rows.extend(path.entry.map(|entry| entry.row()));
+    let facts = vec![
+        ("register", Json::text(name)),
+        ("used", Json::hex(used)),
+        ("pushed", Json::hex(pushed)),
+        ("virtual", Json::hex(at)),
+        ("physical", Json::hex(physical)),
+    ];
+    Some(Verdict {
+        cause: 18,
+        tval: 3,
+        rows,
+        facts,
+    })
+}
+
+/// The trap of a jump or a taken branch to an address that is no multiple of 4.
+pub fn target(before: &State, instruction: u32, family: u64) -> Option<Verdict> {
+    let fields = Fields(instruction);
+    let pc = before.pc();
+    let target = match family {
+        family::JAL => pc.wrapping_add(fields.j_immediate()),
+        family::JALR => before.hart.x[fields.rs1()].wrapping_add(fields.i_immediate()) & !1,
+        _ if taken(&before.hart, fields) => pc.wrapping_add(fields.b_immediate()),
+        _ => return None,
+    };
+    let why = format!("rule 3: the jump's target {target:#x} is not a multiple of 4");
+    let facts = vec![("rule", Json::Number(3)), ("target", Json::hex(target))];
+    let verdict = Verdict {
+        cause: 0,
+        tval: target,
+        rows: vec![("why", why)],
+        facts,
+    };
+    (target % 4 != 0).then_some(verdict)
+}
+
+/// Whether a branch's condition holds.
+fn taken(hart: &Hart, fields: Fields) -> bool {
+    let (one, other) = (hart.x[fields.rs1()], hart.x[fields.rs2()]);
+    let holds = match fields.funct3() & 6 {
+        0 => one == other,
+        4 => (one as i64) < other as i64,
+        _ => one < other,
+    };
+    holds != (fields.funct3() & 1 == 1)
+}
+
+pub fn ecall(before: &State) -> Verdict {
+    let mode = before.mode();
+    let cause = match mode {
+        U => 8,
+        S => 9,
+        _ => 11,
+    };
+    let x = &before.hart.x;
+    let why = format!(
+        "the program made an environment call from {}",
+        mode_name(mode)
+    );
+    let values = format!(
+        "a7 = {:#x}, a0 = {:#x}, a1 = {:#x}, a2 = {:#x}",
+        x[17], x[10], x[11], x[12]
+    );
+    let facts = vec![("a7", Json::hex(x[17])), ("a0", Json::hex(x[10]))];
+    Verdict {
+        cause,
+        tval: 0,
+        rows: vec![("why", why), ("values", values)],
+        facts,
+    }
+}
+
+pub fn ebreak(before: &State) -> Verdict {
+    let why = "the program met a breakpoint (ebreak)".into();
+    Verdict {
+        cause: 3,
+        tval: before.pc(),
+        rows: vec![("why", why)],
+        facts: Vec::new(),
+    }
+}
+
+/// Which CSR and bit turns the shadow stack on in a mode, for a reason in words.
+pub fn missing_enable(hart: &Hart) -> Option<&'static str> {
+    match hart.rest[word::MODE] {
+        M => None,
+        _ if hart.rest[word::MENVCFG] & SSE == 0 => Some("menvcfg.SSE"),
+        U if hart.rest[word::SENVCFG] & SSE == 0 => Some("senvcfg.SSE"),
+        _ => None,
+    }
+}

@@ -1,0 +1,197 @@
+//! Why a step trapped, in words and as facts for programs.
+//!
+//! `expected` goes through a step in document 01's order (fetch, landing pad, decoding, the instruction) on the
+//! state before it, and finds the trap and its reason. What the proved hart gave decides: where the two differ,
+//! the explanation says so and gives no reason.
+
+#[cfg(test)]
+mod agreement;
+mod fault;
+mod flow;
+mod illegal;
+
+use crate::fields::Fields;
+use crate::json::Json;
+use crate::map::PageMap;
+use crate::names::{mode_name, M};
+use crate::place::{Access, Kind};
+use crate::state::State;
+use sporhulma::{word, Hart, BASE};
+use std::ops::Range;
+
+/// Rows of a report: what it is about, and what is said.
+pub type Rows = Vec<(&'static str, String)>;
+
+/// The decoder's families that can trap, as `sporhulma::family` numbers them.
+mod family {
+    pub const ILLEGAL: u64 = 0;
+    pub const JAL: u64 = 3;
+    pub const JALR: u64 = 4;
+    pub const BRANCH: u64 = 5;
+    pub const LOAD: u64 = 6;
+    pub const STORE: u64 = 7;
+    pub const ECALL: u64 = 13;
+    pub const EBREAK: u64 = 14;
+    pub const SRET: u64 = 15;
+    pub const MRET: u64 = 16;
+    pub const CSR: u64 = 17;
+    pub const PUSH: u64 = 19;
+    pub const POP: u64 = 20;
+    pub const SWAP: u64 = 21;
+}
+
+/// A trap with its reason.
+struct Verdict {
+    cause: u64,
+    tval: u64,
+    rows: Rows,
+    facts: Vec<(&'static str, Json)>,
+}
+
+/// A trap as the hart gave it, explained.
+pub struct Trap {
+    pub cause: u64,
+    pub tval: u64,
+    /// Where and in which mode it happened.
+    pub pc: u64,
+    pub from: u64,
+    /// The mode that it was taken to.
+    pub to: u64,
+    pub rows: Rows,
+    pub facts: Vec<(&'static str, Json)>,
+}
+
+impl Trap {
+    /// The trap of a step from `before` to `after`.
+    pub fn explain(before: &State, map: &PageMap, after: &Hart, cause: u64) -> Trap {
+        let to = after.rest[word::MODE];
+        let tval = after.rest[if to == M { word::MTVAL } else { word::STVAL }];
+        let (reason, facts) = match expected(before, map) {
+            Some(verdict) if (verdict.cause, verdict.tval) == (cause, tval) => {
+                (verdict.rows, verdict.facts)
+            }
+            other => (vec![("note", disagreement(other))], Vec::new()),
+        };
+        let rows = [("at", before.next_text(map))]
+            .into_iter()
+            .chain(reason)
+            .collect();
+        Trap {
+            cause,
+            tval,
+            pc: before.pc(),
+            from: before.mode(),
+            to,
+            rows,
+            facts,
+        }
+    }
+
+    /// The trap in one line.
+    pub fn headline(&self) -> String {
+        let delegated = if self.to == M {
+            ""
+        } else {
+            ", delegated by medeleg"
+        };
+        format!(
+            "cause {} ({}), tval {:#x}, from {} to {}{delegated}",
+            self.cause,
+            cause_name(self.cause),
+            self.tval,
+            mode_name(self.from),
+            mode_name(self.to)
+        )
+    }
+}
+
+fn disagreement(own: Option<Verdict>) -> String {
+    let own = match own {
+        Some(verdict) => format!("cause {} with tval {:#x}", verdict.cause, verdict.tval),
+        None => "no trap".into(),
+    };
+    format!("the desk has no explanation: it comes to {own}, and the proved hart decides. Please report this.")
+}
+
+pub fn cause_name(cause: u64) -> &'static str {
+    match cause {
+        0 => "instruction address misaligned",
+        1 => "instruction access fault",
+        2 => "illegal instruction",
+        3 => "breakpoint",
+        4 => "load address misaligned",
+        5 => "load access fault",
+        6 => "store address misaligned",
+        7 => "store access fault",
+        8 => "environment call from U",
+        9 => "environment call from S",
+        11 => "environment call from M",
+        12 => "instruction page fault",
+        13 => "load page fault",
+        15 => "store page fault",
+        18 => "software check",
+        _ => "unknown cause",
+    }
+}
+
+/// The trap of the next step, if it traps.
+fn expected(before: &State, map: &PageMap) -> Option<Verdict> {
+    let word = match before.next_word(map) {
+        Ok(word) => word,
+        Err(path) => return fault::verdict(&path),
+    };
+    if let Some(missing) = flow::landing_pad(before, word) {
+        return Some(missing);
+    }
+    let family = sporhulma::family(word);
+    if let Some(why) = illegal::reason(&before.hart, word, family) {
+        return Some(illegal::verdict(word, why));
+    }
+    match family {
+        family::JAL | family::JALR | family::BRANCH => flow::target(before, word, family),
+        family::ECALL => Some(flow::ecall(before)),
+        family::EBREAK => Some(flow::ebreak(before)),
+        _ => access_trap(before, map, word),
+    }
+}
+
+/// The access that a memory instruction makes, if the word is one and makes one.
+fn access(before: &State, word: u32) -> Option<Access> {
+    let fields = Fields(word);
+    let hart = &before.hart;
+    let ssp = hart.rest[word::SSP];
+    let base = hart.x[fields.rs1()];
+    let size = 1 << (fields.funct3() & 3);
+    let (kind, width, address) = match sporhulma::family(word) {
+        family::LOAD => (Kind::Load, size, base.wrapping_add(fields.i_immediate())),
+        family::STORE => (Kind::Store, size, base.wrapping_add(fields.s_immediate())),
+        family::PUSH if flow::shadow_stack_on(hart) => (Kind::Push, 8, ssp.wrapping_sub(8)),
+        family::POP if flow::shadow_stack_on(hart) => (Kind::Pop, 8, ssp),
+        family::SWAP => (Kind::Swap, size, base),
+        _ => return None,
+    };
+    Some(Access {
+        kind,
+        width,
+        address,
+    })
+}
+
+/// The trap of a memory instruction.
+fn access_trap(before: &State, map: &PageMap, word: u32) -> Option<Verdict> {
+    let access = access(before, word)?;
+    let path = before.path(map, access);
+    match (access.kind, &path.end) {
+        (Kind::Pop, Ok(physical)) => flow::mismatch(before, &path, *physical, Fields(word).rs1()),
+        _ => fault::verdict(&path),
+    }
+}
+
+/// Where in memory a step that does not trap writes, as indices of bytes.
+pub fn written(before: &State, map: &PageMap) -> Option<Range<usize>> {
+    let access = access(before, before.next_word(map).ok()?)?;
+    let writes = matches!(access.kind, Kind::Store | Kind::Push | Kind::Swap);
+    let physical = before.path(map, access).end.ok().filter(|_| writes)?;
+    let first = (physical - BASE) as usize;
+    Some(first..first + access.width as usize)
+}

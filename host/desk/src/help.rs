@@ -1,0 +1,108 @@
+//! The help: of the desk, and of each command.
+
+use crate::failure::Failure;
+use crate::options::{nearest, Spec};
+use crate::text::wrapped;
+use crate::{demonstrate, run_options, words};
+
+/// The commands with a line about each.
+pub const COMMANDS: [(&str, &str); 4] = [
+    (
+        "run",
+        "run a raw image on the proved hart and say where and why it stopped",
+    ),
+    (
+        "demo",
+        "the incident: one program with the shadow stack off and on, and torque.svg",
+    ),
+    ("disasm", "the text of instruction words"),
+    (
+        "help",
+        "this, or with a command's name the help of that command",
+    ),
+];
+
+const OVERVIEW: &str = "\
+Sporhulma's desk: run RV64 programs on a proved hart with shadow stack, landing pads and masking.
+
+  desk run IMAGE [options]
+  desk demo [--svg FILE]
+  desk disasm WORD...            desk disasm --image FILE [--at ADDRESS] [--words N]
+  desk help [COMMAND]
+
+";
+
+const STATUSES: &str = "
+Exit status: 0 all went as asked, 1 the desk itself failed (for instance a full disk),
+  2 the input is wrong (one line on stderr says where and what would be right), 3 a run stopped
+  at a trap, or not at the trap that --expect names. docs/DESK.md has all of it.
+";
+
+const RUN: &str = "\
+desk run IMAGE [options]
+
+The raw image is placed at the start of memory, physical 0x80000000. The hart starts in M at pc
+0x80000000 with all registers and CSRs 0, and stops at the first trap or when its steps are spent.
+
+";
+
+const RUN_EXAMPLES: &str = "
+Numbers are written as 4096, 0x1000, 0b1000 or 1_000_000. The switches act on top of --csr.
+A hart in user mode under Sv39 with its shadow stack, traced:
+  desk run program.bin --map program.map --mode U --pc 0x10000 --sv39 --shadow-stack \\
+      --ssp 0x31000 --x sp=0x21000 --trace --expect ecall
+program.map:
+  0x10000 -> 0x80000000 r-x u       # code
+  0x20000 -> 0x80001000 rw  u       # data and stack
+  0x30000 -> 0x80002000 shadow u    # shadow stack (W alone): ssp starts at its end
+Flags are the leaf's r w x u g; v a d are set unless !v !a !d is there. A line of the form
+0x40000 -> leaf 0x200010d7 gives the leaf's whole word.
+";
+
+const DEMO: &str = "\
+desk demo [options]
+
+Runs the torque controller of examples/torque twice, with the shadow stack off and on, says what
+happened and draws both curves.
+
+";
+
+const DISASM: &str = "\
+desk disasm WORD... [--at ADDRESS]
+desk disasm --image FILE [--at ADDRESS] [--words N]
+
+Prints a line a word: address, word, text as GNU objdump writes it.
+A WORD is 0x00a00513 or 00a00513.
+
+";
+
+/// The help of a command, or of the desk.
+pub fn text(command: Option<&str>) -> Result<String, Failure> {
+    Ok(match command {
+        None | Some("help") => {
+            let line = |(name, about): &(&str, &str)| format!("  {name:<8}{about}\n");
+            OVERVIEW.to_string() + &COMMANDS.iter().map(line).collect::<String>() + STATUSES
+        }
+        Some("run") => RUN.to_string() + &table(run_options::OPTIONS) + RUN_EXAMPLES + STATUSES,
+        Some("demo") => DEMO.to_string() + &table(demonstrate::OPTIONS),
+        Some("disasm") => DISASM.to_string() + &table(words::OPTIONS),
+        Some(other) => return Err(unknown(other)),
+    })
+}
+
+/// Wrong command names, with the nearest right one.
+pub fn unknown(command: &str) -> Failure {
+    let right = match nearest(command, COMMANDS.iter().map(|command| command.0)) {
+        Some(near) => format!("did you mean {near}?"),
+        None => "the commands are run, demo, disasm and help".into(),
+    };
+    Failure::at(command, format!("the desk has no such command; {right}"))
+}
+
+fn table(specs: &[Spec]) -> String {
+    let line = |spec: &Spec| {
+        let head = format!("  {:<24} ", format!("{} {}", spec.name, spec.value));
+        wrapped(&head, spec.about.split(' '), head.len())
+    };
+    specs.iter().map(line).collect()
+}

@@ -1,0 +1,49 @@
+//! Files that are read: raw images and texts.
+
+use crate::failure::Failure;
+use crate::refusal::MEMORY;
+use std::fs::File;
+use std::io::Read;
+
+/// A raw image, at most as large as the largest memory.
+pub fn image(path: &str) -> Result<Vec<u8>, Failure> {
+    let bytes = bytes(path)?;
+    match bytes.len() {
+        0 => Err(Failure::at(
+            path,
+            "the image is empty; give a file with at least one instruction",
+        )),
+        length if length as u64 > MEMORY => Err(Failure::at(
+            path,
+            format!("the image has more than {MEMORY} bytes (1M), the largest memory"),
+        )),
+        _ => Ok(bytes),
+    }
+}
+
+/// A text, for instance a page map.
+pub fn text(path: &str) -> Result<String, Failure> {
+    let wrong = |_| Failure::at(path, "it is no text (not UTF-8); give a text file");
+    String::from_utf8(bytes(path)?).map_err(wrong)
+}
+
+/// What a file holds, but no more than shows that it is too large.
+fn bytes(path: &str) -> Result<Vec<u8>, Failure> {
+    let wrong = |error: std::io::Error| {
+        let why = match error.kind() {
+            std::io::ErrorKind::NotFound => "there is no such file; check the path".to_string(),
+            std::io::ErrorKind::IsADirectory => "it is a folder; give a file".to_string(),
+            std::io::ErrorKind::PermissionDenied => {
+                "it may not be read; check its rights".to_string()
+            }
+            _ => format!("it cannot be read: {error}"),
+        };
+        Failure::at(path, why)
+    };
+    let mut bytes = Vec::new();
+    let file = File::open(path).map_err(wrong)?;
+    file.take(MEMORY + 1)
+        .read_to_end(&mut bytes)
+        .map_err(wrong)?;
+    Ok(bytes)
+}

@@ -1,0 +1,180 @@
+//! Where and why a run stopped: in words, and as a JSON object.
+
+use crate::drive::{End, Stop};
+use crate::dump;
+use crate::explain::{cause_name, Rows, Trap};
+use crate::json::Json;
+use crate::map::PageMap;
+use crate::names::mode_name;
+use crate::setup::{Expect, Job};
+use crate::text;
+use disasm::register;
+use sporhulma::{word, Hart, BASE, REST};
+
+/// What is said at the end.
+pub struct Report {
+    headline: String,
+    rows: Rows,
+    trap: Option<Trap>,
+    /// 0 if it ended as asked, 3 if not.
+    pub status: u8,
+}
+
+impl Report {
+    pub fn new(end: &End, map: &PageMap, expect: Option<&Expect>, translated: bool) -> Report {
+        let trap = match (end.stop, &end.before, end.cause) {
+            (Stop::Trap | Stop::Stuck, Some(before), Some(cause)) => {
+                Some(Trap::explain(before, map, &end.after.hart, cause))
+            }
+            _ => None,
+        };
+        let mut rows = trap
+            .as_ref()
+            .map_or_else(Vec::new, |trap| trap.rows.clone());
+        let next = if trap.is_some() { "handler" } else { "next" };
+        rows.push((next, end.after.next_text(map)));
+        rows.extend(notes(end, map, translated).map(|note| ("note", note)));
+        let good = match (expect, &trap) {
+            (None, trap) => trap.is_none(),
+            (Some(expect), Some(trap)) => expect.causes.contains(&trap.cause),
+            (Some(_), None) => false,
+        };
+        if let Some(expect) = expect {
+            let verdict = if good {
+                "as --expect asks"
+            } else {
+                "not as --expect asks"
+            };
+            rows.push(("expect", format!("{verdict}: {}", expect.text)));
+        }
+        let status = if good { 0 } else { 3 };
+        Report {
+            headline: headline(end, trap.as_ref()),
+            rows,
+            trap,
+            status,
+        }
+    }
+
+    pub fn text(&self) -> String {
+        text::wrapped("", self.headline.split(' '), 2) + &text::rows(&self.rows)
+    }
+
+    /// The object that docs/DESK.md describes.
+    pub fn json(&self, end: &End, job: &Job) -> Json {
+        let stopped = match end.stop {
+            Stop::Steps => "steps",
+            Stop::Trap => "trap",
+            Stop::Stuck => "stuck",
+        };
+        let headline = Json::text(self.headline.as_str());
+        let rows = self
+            .rows
+            .iter()
+            .map(|(label, text)| Json::text(format!("{label}: {text}")));
+        let dumps = job
+            .dumps
+            .iter()
+            .map(|&(address, length)| dumped(end, address, length));
+        let mut members = vec![
+            ("status", Json::Number(self.status.into())),
+            ("stopped", Json::text(stopped)),
+            ("count", Json::Number(end.count)),
+            ("followed", Json::Number(end.followed)),
+            ("trap", self.trap.as_ref().map_or(Json::Null, trap_json)),
+            (
+                "words",
+                Json::List([headline].into_iter().chain(rows).collect()),
+            ),
+        ];
+        members.extend(hart_json(&end.after.hart));
+        members.push(("dump", Json::List(dumps.collect())));
+        Json::object(members)
+    }
+}
+
+fn hart_json(hart: &Hart) -> Vec<(&'static str, Json)> {
+    let rest = &hart.rest;
+    let registers = (0..32).map(|n| (register(n), Json::hex(hart.x[n])));
+    let csrs = (word::SSP..REST.len()).map(|index| (REST[index], Json::hex(rest[index])));
+    vec![
+        ("pc", Json::hex(rest[word::PC])),
+        ("mode", Json::text(mode_name(rest[word::MODE]))),
+        ("elp", Json::Number(rest[word::ELP])),
+        ("registers", Json::object(registers)),
+        ("csrs", Json::object(csrs)),
+    ]
+}
+
+fn headline(end: &End, trap: Option<&Trap>) -> String {
+    let followed = match end.followed {
+        0 => String::new(),
+        1 => ", 1 trap before it followed".into(),
+        more => format!(", {more} traps before it followed"),
+    };
+    let step = end.count;
+    match (end.stop, trap) {
+        (Stop::Trap, Some(trap)) => {
+            format!("Stopped by a trap in step {step}{followed}: {}.", trap.headline())
+        }
+        (Stop::Stuck, Some(trap)) => format!(
+            "Stuck in step {step}{followed}: this trap leaves the hart exactly as it was, for ever: {}.",
+            trap.headline()
+        ),
+        _ => {
+            let followed = followed.replace(" before it", "");
+            let steps = if step == 1 { "step" } else { "steps" };
+            format!("Stopped after {step} {steps}, all that --steps allows{followed}.")
+        }
+    }
+}
+
+/// Hints about slips that are easily made.
+fn notes(end: &End, map: &PageMap, translated: bool) -> impl Iterator<Item = String> {
+    let bare = end.after.hart.rest[word::SATP] == 0 && !translated;
+    let unused = (bare && !map.entries.is_empty()).then(|| {
+        "the map was not in use: satp is Bare at the start and at the end (--sv39 turns it on)"
+            .into()
+    });
+    let still = end.stop == Stop::Steps
+        && end
+            .before
+            .as_ref()
+            .is_some_and(|b| b.hart == end.after.hart && b.mem == end.after.mem);
+    let still =
+        still.then(|| "the last step changed nothing: the program waits here for ever".into());
+    unused.into_iter().chain(still)
+}
+
+fn trap_json(trap: &Trap) -> Json {
+    let facts = trap.facts.iter().map(|(key, value)| (*key, value.clone()));
+    Json::object([
+        ("cause", Json::Number(trap.cause)),
+        ("name", Json::text(cause_name(trap.cause))),
+        ("tval", Json::hex(trap.tval)),
+        ("pc", Json::hex(trap.pc)),
+        ("from", Json::text(mode_name(trap.from))),
+        ("to", Json::text(mode_name(trap.to))),
+        ("facts", Json::object(facts)),
+    ])
+}
+
+fn dumped(end: &End, address: u64, length: u64) -> Json {
+    let start = (address - BASE) as usize;
+    let bytes = &end.after.mem[start..start + length as usize];
+    let hex: String = bytes.iter().map(|byte| format!("{byte:02x}")).collect();
+    Json::object([("address", Json::hex(address)), ("bytes", Json::text(hex))])
+}
+
+/// The tables that were asked for.
+pub fn tables(end: &End, job: &Job) -> String {
+    let mut text = String::new();
+    if job.registers {
+        text += "\n";
+        text += &dump::registers(&end.after);
+    }
+    for &(address, length) in &job.dumps {
+        text += &format!("\n{}", dump::memory(&end.after, address, length));
+    }
+    text
+}

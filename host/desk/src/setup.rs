@@ -1,0 +1,151 @@
+//! From the options of `desk run` to what is run: the state at the start, the map, the limits, the outputs.
+
+use crate::drive::Limits;
+use crate::failure::Failure;
+use crate::image;
+use crate::map::PageMap;
+use crate::number::{number, size};
+use crate::options::Given;
+use crate::output::Output;
+use crate::refusal::{self, MEMORY};
+use crate::start::hart;
+use crate::state::State;
+use sporhulma::BASE;
+
+/// A trap that the user waits for.
+pub struct Expect {
+    pub text: String,
+    pub causes: Vec<u64>,
+}
+
+/// All that `desk run` was asked to do.
+pub struct Job {
+    pub state: State,
+    pub map: PageMap,
+    pub limits: Limits,
+    pub expect: Option<Expect>,
+    pub trace: bool,
+    pub trace_to: Option<Output>,
+    pub registers: bool,
+    pub dumps: Vec<(u64, u64)>,
+    pub save: Option<Output>,
+    pub json: bool,
+}
+
+impl Job {
+    pub fn new(given: &Given) -> Result<Job, Failure> {
+        let state = State {
+            hart: hart(given)?,
+            mem: memory(given)?,
+        };
+        let map = match given.one("--map") {
+            Some(path) => PageMap::parse(path, &image::text(path)?)?,
+            None => PageMap::default(),
+        };
+        let limits = Limits {
+            steps: given.parsed("--steps", number)?.unwrap_or(1_000_000),
+            follow: follow(given)?,
+        };
+        let dumps = given
+            .all("--dump")
+            .map(|value| dump(value, state.mem.len() as u64));
+        let dumps = dumps
+            .collect::<Result<_, _>>()
+            .map_err(|wrong| Failure::at("--dump", wrong))?;
+        let (trace, json) = (given.has("--trace"), given.has("--json"));
+        if trace && json && !given.has("--trace-to") {
+            let wrong = "with --json the trace needs a place of its own; add --trace-to FILE";
+            return Err(Failure::at("--trace", wrong));
+        }
+        Ok(Job {
+            expect: given.parsed("--expect", expect)?,
+            trace: trace || given.has("--trace-to"),
+            trace_to: given.parsed("--trace-to", Output::open)?,
+            registers: given.has("--registers"),
+            save: given.parsed("--save", Output::open)?,
+            state,
+            map,
+            limits,
+            dumps,
+            json,
+        })
+    }
+}
+
+/// Memory with the image at its start.
+fn memory(given: &Given) -> Result<Vec<u8>, Failure> {
+    let path = match given.places.as_slice() {
+        [path] => path,
+        [] => {
+            return Err(Failure::at(
+                "run",
+                "the image is missing; write desk run IMAGE [options]",
+            ))
+        }
+        [one, other, ..] => {
+            return Err(Failure::at(
+                "run",
+                format!("two images, {one} and {other}; give one"),
+            ))
+        }
+    };
+    let length = given.parsed("--memory", size)?.unwrap_or(MEMORY);
+    if let Some(wrong) = refusal::memory(length) {
+        return Err(Failure::at("--memory", wrong));
+    }
+    let mut mem = image::image(path)?;
+    if mem.len() as u64 > length {
+        let (bytes, enough) = (mem.len(), mem.len().next_multiple_of(4096));
+        let wrong =
+            format!("the image has {bytes} bytes and memory {length}; try --memory {enough}");
+        return Err(Failure::at(path, wrong));
+    }
+    mem.resize(length as usize, 0);
+    Ok(mem)
+}
+
+fn follow(given: &Given) -> Result<u64, Failure> {
+    let read = |value: &str| match value {
+        "all" => Ok(u64::MAX),
+        _ => number(value).map_err(|_| format!("'{value}' is neither a number of traps nor 'all'")),
+    };
+    Ok(given.parsed("--follow", read)?.unwrap_or(0))
+}
+
+fn expect(text: &str) -> Result<Expect, String> {
+    let causes = match (text, number(text)) {
+        ("ecall", _) => vec![8, 9, 11],
+        ("ebreak", _) => vec![3],
+        (_, Ok(cause)) if cause < 64 => vec![cause],
+        _ => {
+            return Err(format!(
+                "'{text}' is no trap; write ecall, ebreak or a cause below 64"
+            ))
+        }
+    };
+    Ok(Expect {
+        text: text.into(),
+        causes,
+    })
+}
+
+/// A stretch of memory: ADDRESS:LENGTH, all of it in memory.
+fn dump(value: &str, memory: u64) -> Result<(u64, u64), String> {
+    let Some((address, length)) = value.split_once(':') else {
+        return Err(format!(
+            "'{value}' has no ':'; write for instance 0x80001000:64"
+        ));
+    };
+    let (address, length) = (number(address)?, size(length)?);
+    let end = BASE + memory;
+    if length == 0 {
+        Err(format!("'{value}' has length 0; try 1 or more"))
+    } else if address < BASE || address >= end || length > end - address {
+        let last = end - 1;
+        Err(format!(
+            "{value} is not all in memory, which is {BASE:#x} to {last:#x}"
+        ))
+    } else {
+        Ok((address, length))
+    }
+}

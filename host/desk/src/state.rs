@@ -1,0 +1,58 @@
+//! A hart with its memory and its map, and what stands at an address of it.
+
+use crate::map::PageMap;
+use crate::names::mode_name;
+use crate::place::{follow, Access, Kind, Path};
+use sporhulma::{word, Hart, BASE};
+
+/// A hart and its memory at one moment.
+#[derive(Clone)]
+pub struct State {
+    pub hart: Hart,
+    pub mem: Vec<u8>,
+}
+
+impl State {
+    pub fn pc(&self) -> u64 {
+        self.hart.rest[word::PC]
+    }
+
+    pub fn mode(&self) -> u64 {
+        self.hart.rest[word::MODE]
+    }
+
+    /// How an access would go.
+    pub fn path(&self, map: &PageMap, access: Access) -> Path {
+        follow(&self.hart, self.mem.len() as u64, map, access)
+    }
+
+    /// The word that the next step fetches, or the path of the fetch that is refused.
+    pub fn next_word(&self, map: &PageMap) -> Result<u32, Box<Path>> {
+        let fetch = Access {
+            kind: Kind::Fetch,
+            width: 4,
+            address: self.pc(),
+        };
+        let path = self.path(map, fetch);
+        match path.end {
+            Ok(physical) => Ok(self.bytes(physical, 4) as u32),
+            Err(_) => Err(Box::new(path)),
+        }
+    }
+
+    /// Up to eight bytes at a physical address in memory, as a little-endian number.
+    pub fn bytes(&self, physical: u64, width: usize) -> u64 {
+        let at = (physical - BASE) as usize;
+        let number = |sum, &byte| sum << 8 | u64::from(byte);
+        self.mem[at..at + width].iter().rev().fold(0, number)
+    }
+
+    /// The next instruction as address, mode, word and text.
+    pub fn next_text(&self, map: &PageMap) -> String {
+        let at = format!("{:#x} in {}", self.pc(), mode_name(self.mode()));
+        match self.next_word(map) {
+            Ok(word) => format!("{at}: {word:08x}  {}", disasm::text(word, self.pc())),
+            Err(_) => format!("{at}: no word can be fetched there"),
+        }
+    }
+}

@@ -1,0 +1,85 @@
+//! `desk disasm`: the text of words given as arguments or in a raw image.
+
+use crate::failure::Failure;
+use crate::image::image;
+use crate::number::number;
+use crate::options::{Given, Spec};
+use sporhulma::BASE;
+use std::io::Write;
+
+/// The options of `desk disasm`.
+#[rustfmt::skip]
+pub const OPTIONS: &[Spec] = &[
+    Spec { name: "--image", value: "FILE", example: "program.bin", many: false, about: "a raw image instead of words" },
+    Spec { name: "--at", value: "ADDRESS", example: "0x80000000", many: false, about: "the address of the first word, a multiple of 4 (default 0x80000000)" },
+    Spec { name: "--words", value: "N", example: "16", many: false, about: "at most so many words of the image (default all)" },
+];
+
+/// Prints a line a word: address, word, text.
+pub fn run(given: &Given, out: &mut dyn Write) -> Result<u8, Failure> {
+    let at = given.parsed("--at", number)?.unwrap_or(BASE);
+    if at % 4 != 0 {
+        let wrong = format!("{at:#x} is not a multiple of 4; try {:#x}", at - at % 4);
+        return Err(Failure::at("--at", wrong));
+    }
+    let bytes = bytes(given)?;
+    let most = given
+        .parsed("--words", number)?
+        .unwrap_or(u64::MAX)
+        .min(bytes.len() as u64) as usize;
+    let mut pc = at;
+    for chunk in bytes.chunks(4).take(most) {
+        match <[u8; 4]>::try_from(chunk) {
+            Ok(bytes) => {
+                let word = u32::from_le_bytes(bytes);
+                writeln!(out, "{pc:#x}:  {word:08x}  {}", disasm::text(word, pc))?;
+            }
+            // An image's last bytes that are no whole word.
+            Err(_) => {
+                let bytes: Vec<String> = chunk.iter().map(|byte| format!("{byte:#04x}")).collect();
+                writeln!(out, "{pc:#x}:  {:8}  .byte {}", "", bytes.join(", "))?;
+            }
+        }
+        pc = pc.wrapping_add(4);
+    }
+    Ok(0)
+}
+
+/// The words as they lie in memory.
+fn bytes(given: &Given) -> Result<Vec<u8>, Failure> {
+    match (given.one("--image"), given.places.as_slice()) {
+        (Some(path), []) => image(path),
+        (Some(_), [word, ..]) => Err(Failure::at(
+            "--image",
+            format!("the word {word} is given too; give words or an image"),
+        )),
+        (None, []) => Err(Failure::at(
+            "disasm",
+            "nothing is given; write desk disasm 0x00a00513 or --image FILE",
+        )),
+        (None, _) if given.has("--words") => {
+            Err(Failure::at("--words", "it goes with --image; leave it out"))
+        }
+        (None, words) => {
+            let words: Vec<u32> = words
+                .iter()
+                .map(|text| word(text))
+                .collect::<Result<_, _>>()?;
+            Ok(words.into_iter().flat_map(u32::to_le_bytes).collect())
+        }
+    }
+}
+
+/// A word as a number, or as eight hex digits as objdump prints it.
+fn word(text: &str) -> Result<u32, Failure> {
+    if text.len() == 8 && text.chars().all(|digit| digit.is_ascii_hexdigit()) {
+        return Ok(u32::from_str_radix(text, 16).unwrap_or_default());
+    }
+    let wrong = |why: String| Failure::at("disasm", why);
+    let large = |_| {
+        wrong(format!(
+            "{text} has more than 32 bits; a word is at most 0xffffffff"
+        ))
+    };
+    u32::try_from(number(text).map_err(wrong)?).map_err(large)
+}

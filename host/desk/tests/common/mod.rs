@@ -1,0 +1,93 @@
+//! A folder of its own for each test, files in it, and the desk run there.
+
+#![allow(dead_code)] // each test file uses its own part
+
+use std::fs;
+use std::path::PathBuf;
+use std::process::{Command, Stdio};
+
+// Words of small programs, as the GNU assembler gives them.
+pub const NOP: u32 = 0x0000_0013;
+pub const ECALL: u32 = 0x0000_0073;
+pub const EBREAK: u32 = 0x0010_0073;
+pub const SSPUSH_RA: u32 = 0xce10_4073;
+pub const SSPOPCHK_RA: u32 = 0xcdc0_c073;
+pub const LD_A0_A1: u32 = 0x0005_b503; // ld a0,0(a1)
+pub const SD_A0_A1: u32 = 0x00a5_b023; // sd a0,0(a1)
+pub const JR_A0: u32 = 0x0005_0067; // jr a0
+pub const J_SELF: u32 = 0x0000_006f; // j .
+
+/// Counts a0 down from its value to 0, then calls.
+pub const COUNTDOWN: [u32; 3] = [
+    0xfff5_0513, // addi a0,a0,-1
+    0xfe05_1ee3, // bnez a0,.-4
+    ECALL,
+];
+
+/// Pages of a small user program: code, data, shadow stack.
+pub const MAP: &str = "\
+# the program
+0x30000 -> 0x80002000 shadow u
+0x10000 -> 0x80000000 r-x u
+0x20000 -> 0x80001000 rw u
+";
+
+/// The options that go with `MAP`.
+pub const USER: &str = "--memory 16K --map user.map --mode U --pc 0x10000 --sv39";
+
+pub struct Outcome {
+    pub status: i32,
+    pub out: String,
+    pub err: String,
+}
+
+/// A folder that goes away with the test.
+pub struct Desk {
+    pub folder: PathBuf,
+}
+
+impl Desk {
+    pub fn new(test: &str) -> Desk {
+        let name = format!("desk-{}-{test}", std::process::id());
+        let folder = std::env::temp_dir().join(name);
+        fs::create_dir_all(&folder).unwrap();
+        let desk = Desk { folder };
+        desk.file("user.map", MAP);
+        desk
+    }
+
+    pub fn file(&self, name: &str, content: impl AsRef<[u8]>) {
+        fs::write(self.folder.join(name), content).unwrap();
+    }
+
+    pub fn image(&self, name: &str, words: &[u32]) {
+        let bytes: Vec<u8> = words.iter().flat_map(|word| word.to_le_bytes()).collect();
+        self.file(name, bytes);
+    }
+
+    pub fn command(&self, arguments: &[&str]) -> Command {
+        let mut command = Command::new(env!("CARGO_BIN_EXE_desk"));
+        command
+            .args(arguments)
+            .current_dir(&self.folder)
+            .stdin(Stdio::null());
+        command
+    }
+
+    /// Runs the desk with arguments that are separated by spaces.
+    pub fn run(&self, arguments: &str) -> Outcome {
+        let arguments: Vec<&str> = arguments.split_whitespace().collect();
+        let output = self.command(&arguments).output().unwrap();
+        Outcome {
+            status: output.status.code().expect("the desk ended by itself"),
+            out: String::from_utf8(output.stdout).unwrap(),
+            err: String::from_utf8(output.stderr).unwrap(),
+        }
+    }
+}
+
+impl Drop for Desk {
+    fn drop(&mut self) {
+        let _ = fs::remove_dir_all(&self.folder);
+    }
+}

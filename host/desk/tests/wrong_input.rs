@@ -1,0 +1,212 @@
+//! Bad input of every kind: one line on stderr that names the place and what would be right, and status 2.
+
+mod common;
+
+use common::{Desk, ECALL};
+
+/// Runs each command line, and holds its whole output against the line that must be on stderr.
+fn refused(test: &str, prepare: impl Fn(&Desk), cases: &[(&str, &str)]) {
+    let desk = Desk::new(test);
+    desk.image("ok.bin", &[ECALL]);
+    prepare(&desk);
+    for (arguments, line) in cases {
+        let outcome = desk.run(arguments);
+        assert_eq!(outcome.err, format!("desk: {line}\n"), "desk {arguments}");
+        assert_eq!(outcome.out, "", "desk {arguments}");
+        assert_eq!(outcome.status, 2, "desk {arguments}");
+    }
+}
+
+#[test]
+#[rustfmt::skip]
+fn commands() {
+    refused("commands", |_| (), &[
+        ("", "no command is given; write desk run, demo, disasm or help"),
+        ("runn ok.bin", "runn: the desk has no such command; did you mean run?"),
+        ("simulate", "simulate: the desk has no such command; the commands are run, demo, disasm and help"),
+        ("help rnu", "rnu: the desk has no such command; the commands are run, demo, disasm and help"),
+        ("help run demo", "help: 'demo' is not needed; name one command"),
+        ("demo now", "demo: 'now' is not needed; write desk demo [--svg FILE]"),
+        ("demo --svg", "--svg: its FILE is missing; write for instance --svg torque.svg"),
+        ("run", "run: the image is missing; write desk run IMAGE [options]"),
+        ("run ok.bin user.map", "run: two images, ok.bin and user.map; give one"),
+    ]);
+}
+
+#[test]
+#[rustfmt::skip]
+fn options() {
+    refused("options", |_| (), &[
+        ("run ok.bin --memroy 64K", "--memroy: 'desk run' has no such option; did you mean --memory?"),
+        ("run ok.bin --banana", "--banana: 'desk run' has no such option; 'desk help run' lists them"),
+        ("run ok.bin -m", "-m: 'desk run' has no such option; 'desk help run' lists them"),
+        ("run ok.bin --memory", "--memory: its SIZE is missing; write for instance --memory 64K"),
+        ("run ok.bin --memory --trace", "--memory: its SIZE is missing; write for instance --memory 64K"),
+        ("run ok.bin --memory=", "--memory: its SIZE is missing; write for instance --memory 64K"),
+        ("run ok.bin --steps 1 --steps=2", "--steps: it is given twice; give it once"),
+        ("run ok.bin --sv39 --sv39", "--sv39: it is given twice; give it once"),
+        ("run ok.bin --sv39=1", "--sv39: it takes no value; write it alone"),
+        ("run ok.bin --trace --json", "--trace: with --json the trace needs a place of its own; add --trace-to FILE"),
+    ]);
+}
+
+#[test]
+#[rustfmt::skip]
+fn images() {
+    let prepare = |desk: &Desk| {
+        desk.file("empty.bin", "");
+        desk.file("big.bin", vec![0; 5000]);
+        desk.file("huge.bin", vec![0; 1_048_577]);
+    };
+    refused("images", prepare, &[
+        ("run none.bin", "none.bin: there is no such file; check the path"),
+        ("run .", ".: it is a folder; give a file"),
+        ("run empty.bin", "empty.bin: the image is empty; give a file with at least one instruction"),
+        ("run big.bin --memory 4096", "big.bin: the image has 5000 bytes and memory 4096; try --memory 8192"),
+        ("run huge.bin", "huge.bin: the image has more than 1048576 bytes (1M), the largest memory"),
+        ("run ok.bin --trace-to no/trace", "--trace-to: no/trace cannot be written (No such file or directory (os error 2)); check its folder and rights"),
+        ("run ok.bin --save no/mem", "--save: no/mem cannot be written (No such file or directory (os error 2)); check its folder and rights"),
+    ]);
+}
+
+#[test]
+#[rustfmt::skip]
+fn numbers() {
+    refused("numbers", |_| (), &[
+        ("run ok.bin --memory 70000", "--memory: 70000 is not a multiple of 4096; try 69632 or 73728"),
+        ("run ok.bin --memory 100", "--memory: 100 is not a multiple of 4096; try 4096"),
+        ("run ok.bin --memory 0", "--memory: 0 bytes are no memory; try 4096 or more, for instance 64K"),
+        ("run ok.bin --memory 2M", "--memory: 2097152 is over 1048576 (1M), the most that the hart takes"),
+        ("run ok.bin --memory 64kB", "--memory: '64kB' is not a size; write it as 65536, 0x10000, 64K or 1M"),
+        ("run ok.bin --pc 12z", "--pc: '12z' is not a number; write it as 4096, 0x1000 or 0b1000"),
+        ("run ok.bin --steps -5", "--steps: '-5' is not a number; write it as 4096, 0x1000 or 0b1000"),
+        ("run ok.bin --steps 99999999999999999999", "--steps: 99999999999999999999 has more than 64 bits; the largest is 0xffffffffffffffff"),
+        ("run ok.bin --mode Q", "--mode: 'Q' is not one of M, S, U"),
+        ("run ok.bin --elp 2", "--elp: '2' is not one of 0, 1"),
+        ("run ok.bin --masking 8", "--masking: '8' is not one of 0, 7, 16"),
+        ("run ok.bin --follow some", "--follow: 'some' is neither a number of traps nor 'all'"),
+        ("run ok.bin --expect trap", "--expect: 'trap' is no trap; write ecall, ebreak or a cause below 64"),
+        ("run ok.bin --expect 64", "--expect: '64' is no trap; write ecall, ebreak or a cause below 64"),
+        ("run ok.bin --dump 0x80000000", "--dump: '0x80000000' has no ':'; write for instance 0x80001000:64"),
+        ("run ok.bin --dump x:4", "--dump: 'x' is not a number; write it as 4096, 0x1000 or 0b1000"),
+        ("run ok.bin --dump 0x80000000:0", "--dump: '0x80000000:0' has length 0; try 1 or more"),
+        ("run ok.bin --memory 4K --dump 0x80000ff0:17", "--dump: 0x80000ff0:17 is not all in memory, which is 0x80000000 to 0x80000fff"),
+        ("run ok.bin --dump 0x7fffffff:1", "--dump: 0x7fffffff:1 is not all in memory, which is 0x80000000 to 0x800fffff"),
+        ("run ok.bin --dump 0xffffffffffffffff:2", "--dump: 0xffffffffffffffff:2 is not all in memory, which is 0x80000000 to 0x800fffff"),
+    ]);
+}
+
+#[test]
+#[rustfmt::skip]
+fn registers_and_csrs() {
+    refused("registers", |_| (), &[
+        ("run ok.bin --x a0", "--x: 'a0' has no '='; write for instance --x a0=5"),
+        ("run ok.bin --x q0=1", "--x: 'q0' is no register; use names as a0, sp, ra or x10"),
+        ("run ok.bin --x x32=1", "--x: 'x32' is no register; use names as a0, sp, ra or x10"),
+        ("run ok.bin --x zero=1", "--x: register zero (x0) is always 0 and cannot be set"),
+        ("run ok.bin --x a0=five", "--x a0: 'five' is not a number; write it as 4096, 0x1000 or 0b1000"),
+        ("run ok.bin --x a0=-0x8000000000000001", "--x a0: -0x8000000000000001 is below -2^63, the least that 64 bits hold"),
+        ("run ok.bin --x a0=1 --x x10=2", "--x x10: it is given twice; give it once"),
+        ("run ok.bin --csr mtvec", "--csr: 'mtvec' has no '='; write for instance --csr mtvec=0x80000100"),
+        ("run ok.bin --csr mtvce=4", "--csr: 'mtvce' is no CSR of this hart; did you mean mtvec?"),
+        ("run ok.bin --csr sstatus=0", "--csr: sstatus is a view of mstatus; set mstatus instead"),
+        ("run ok.bin --csr mepc=4 --csr mepc=8", "--csr mepc: it is given twice; give it once"),
+        ("run ok.bin --csr ssp=8 --ssp 8", "--ssp: ssp is given twice, also by --csr ssp; give it once"),
+        ("run ok.bin --csr cycle=1", "--csr: 'cycle' is no CSR of this hart; it has ssp stvec senvcfg sscratch sepc scause stval satp mstatus medeleg mtvec menvcfg mscratch mepc mcause mtval mseccfg"),
+    ]);
+}
+
+/// What the desk can read and the hart refuses.
+#[test]
+#[rustfmt::skip]
+fn refusals() {
+    refused("refusals", |_| (), &[
+        ("run ok.bin --pc 0x80000002", "--pc: 0x80000002 is not a multiple of 4; try 0x80000000 or 0x80000004 (the hart's refusal 1)"),
+        ("run ok.bin --ssp 12", "--ssp: 0xc is not a multiple of 8; try 0x8 or 0x10 (the hart's refusal 1)"),
+        ("run ok.bin --csr mtvec=0x80000101", "--csr mtvec: 0x80000101 sets bits that are always 0 (0x1); try 0x80000100 (the hart's refusal 1)"),
+        ("run ok.bin --csr satp=0x9000000000000000", "--csr satp: 0x9000000000000000 has MODE 9; try MODE 0 (Bare, 0x0) or 8 (Sv39, 0x8000000000000000) (the hart's refusal 1)"),
+        ("run ok.bin --csr satp=0x8000000000000001", "--csr satp: 0x8000000000000001 sets bits that are always 0 (0x1); try 0x8000000000000000 (the hart's refusal 1)"),
+        ("run ok.bin --csr menvcfg=0x100000000", "--csr menvcfg: 0x100000000 has PMM (bits 33:32) 1; try 0, 2 or 3 there: 0x0 (the hart's refusal 1)"),
+        ("run ok.bin --csr mstatus=0x1000", "--csr mstatus: 0xa00001000 has MPP (bits 12:11) 2, which is no mode; try 0xa00000000 (the hart's refusal 1)"),
+        ("run ok.bin --csr mstatus=0x500000000", "--csr mstatus: 0x500000000 has UXL and SXL other than 2; try 0xa00000000 (the hart's refusal 1)"),
+        ("run ok.bin --csr medeleg=0x400", "--csr medeleg: 0x400 sets bits that are always 0 (0x400); try 0x0 (the hart's refusal 1)"),
+        ("run ok.bin --steps 0 --pc 2 --ssp 1", "--pc: 0x2 is not a multiple of 4; try 0x0 or 0x4; --ssp: 0x1 is not a multiple of 8; try 0x0 or 0x8 (the hart's refusal 1)"),
+    ]);
+}
+
+/// A map of one line, and what is said about it behind `m.map:1: `.
+#[test]
+#[rustfmt::skip]
+fn map_lines() {
+    for (map, wrong) in [
+        ("0x10000 0x80001000 rw", "'0x10000 0x80001000 rw' has no '->'; write for instance 0x10000 -> 0x80001000 rw u"),
+        ("0x10000 ->", "the frame is missing; write for instance 0x10000 -> 0x80001000 rw u"),
+        ("0x10000 -> 0x80001000", "the flags are missing; write for instance rw u, r-x u or shadow u"),
+        ("0x10000 -> 0x80001000 rwq", "'rwq' is no flag; use letters of v r w x u g a d, !v !a !d, or shadow"),
+        ("0x10000 -> 0x80001000 r !", "'!' is no flag; use letters of v r w x u g a d, !v !a !d, or shadow"),
+        ("0x10000 -> 0x80001000 shadows", "'shadows' is no flag; use letters of v r w x u g a d, !v !a !d, or shadow"),
+        ("page -> 0x80001000 rw", "'page' is not a number; write it as 4096, 0x1000 or 0b1000"),
+        ("0x10010 -> 0x80001000 rw", "virtual address 0x10010 is not a multiple of 4096; try 0x10000"),
+        ("0x10000 -> 0x80001004 rw", "physical address 0x80001004 is not a multiple of 4096; try 0x80001000"),
+        ("0x4000000000 -> 0x80001000 rw", "virtual address 0x4000000000 is not of Sv39; its bits 63:39 must equal bit 38"),
+        ("0x10000 -> 0x100000000000000 rw", "physical address 0x100000000000000 has more than 56 bits, the most that a leaf holds"),
+        ("0x10000 -> leaf", "'leaf' takes one word; write for instance 0x10000 -> leaf 0x200004d7"),
+    ] {
+        let prepare = |desk: &Desk| desk.file("m.map", map);
+        refused("map-lines", prepare, &[("run ok.bin --map m.map", &format!("m.map:1: {wrong}"))]);
+    }
+}
+
+#[test]
+#[rustfmt::skip]
+fn maps() {
+    let pages = |count: u64| -> String {
+        (0..count).map(|page| format!("{:#x} -> 0x80000000 rwx u\n", page * 4096)).collect()
+    };
+    let prepare = |desk: &Desk| {
+        desk.file("twice.map", "0x2000 -> 0x80000000 r\n# between\n0x2000 -> 0x80001000 r\n");
+        desk.file("many.map", pages(65));
+        desk.file("most.map", pages(64));
+        desk.file("binary.map", [0xff, 0xfe]);
+        assert_eq!(desk.run("run ok.bin --map most.map --expect ecall").status, 0, "64 are accepted");
+    };
+    refused("maps", prepare, &[
+        ("run ok.bin --map none.map", "none.map: there is no such file; check the path"),
+        ("run ok.bin --map binary.map", "binary.map: it is no text (not UTF-8); give a text file"),
+        ("run ok.bin --map twice.map", "twice.map:3: page 0x2000 stands already in line 1; give each page once"),
+        ("run ok.bin --map many.map", "many.map:65: this is page 65; a map has at most 64"),
+    ]);
+}
+
+#[test]
+#[rustfmt::skip]
+fn disasm() {
+    refused("disasm", |_| (), &[
+        ("disasm", "disasm: nothing is given; write desk disasm 0x00a00513 or --image FILE"),
+        ("disasm 0x100000000", "disasm: 0x100000000 has more than 32 bits; a word is at most 0xffffffff"),
+        ("disasm addi", "disasm: 'addi' is not a number; write it as 4096, 0x1000 or 0b1000"),
+        ("disasm --at 0x80000002 0x13", "--at: 0x80000002 is not a multiple of 4; try 0x80000000"),
+        ("disasm --image ok.bin 0x13", "--image: the word 0x13 is given too; give words or an image"),
+        ("disasm --words 1 0x13", "--words: it goes with --image; leave it out"),
+        ("disasm --image none.bin", "none.bin: there is no such file; check the path"),
+        ("disasm --imgae ok.bin", "--imgae: 'desk disasm' has no such option; did you mean --image?"),
+    ]);
+}
+
+#[cfg(unix)]
+#[test]
+fn an_argument_that_is_no_text() {
+    use std::os::unix::ffi::OsStrExt;
+    let desk = Desk::new("no-text");
+    let mut command = desk.command(&["run"]);
+    let output = command
+        .arg(std::ffi::OsStr::from_bytes(b"\xff.bin"))
+        .output()
+        .unwrap();
+    assert_eq!(output.status.code(), Some(2));
+    let line = String::from_utf8(output.stderr).unwrap();
+    assert_eq!(
+        line,
+        "desk: \u{fffd}.bin: this argument is no text (not UTF-8); rename the file\n"
+    );
+}

@@ -1,0 +1,26 @@
+//! Differential tests: the proved simulator (crate `sporhulma`) against the independent one (crate `second`).
+//!
+//! A case is a whole input: hart, memory, page map and call. `steps` and `runs` make cases from a seed and a number,
+//! `pair` gives a case to both simulators and compares everything they leave, `soak` does that many times and counts
+//! the mix, `text` writes a case as text and reads it back, and `decoder` compares the verdict on all 2^32 words.
+
+pub mod case;
+pub mod csr;
+pub mod decoder;
+pub mod encode;
+pub mod instruction;
+pub mod maker;
+pub mod mix;
+pub mod options;
+pub mod pair;
+pub mod program;
+pub mod random;
+pub mod refuse;
+pub mod runs;
+pub mod shadow;
+pub mod simulator;
+pub mod soak;
+pub mod state;
+pub mod steps;
+pub mod text;
+pub mod world;

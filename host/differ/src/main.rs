@@ -1,0 +1,225 @@
+//! The command `differ`: see `differ --help` (src/options.rs) for what it does.
+
+use differ::case::Case;
+use differ::decoder;
+use differ::mix::FAMILIES;
+use differ::options::{parse, Command, HELP};
+use differ::pair::Pair;
+use differ::simulator::{Proved, Second};
+use differ::soak::{Failure, Name, Soak};
+use differ::text;
+use std::io::{IsTerminal, Write};
+use std::path::{Path, PathBuf};
+use std::process::ExitCode;
+use std::sync::atomic::{AtomicU64, Ordering::Relaxed};
+use std::time::{Duration, Instant};
+
+/// Prints a line. A reader that has gone away (a closed pipe) must not change the exit status.
+macro_rules! say {
+    ($($text:tt)*) => {{
+        let _ = writeln!(std::io::stdout(), $($text)*);
+    }};
+}
+
+const TEST_SEED: u64 = 1;
+const TEST_STEPS: u64 = 1_000_000;
+const TEST_RUNS: u64 = 20_000;
+
+/// Cases between two looks at the clock.
+const STEPS_AT_ONCE: u64 = 5_000;
+const RUNS_AT_ONCE: u64 = 100;
+
+fn main() -> ExitCode {
+    let args: Vec<String> = std::env::args().skip(1).collect();
+    let command = match parse(&args) {
+        Ok(command) => command,
+        Err(error) => return usage(&error),
+    };
+    match command {
+        Command::Help => {
+            say!("{}", HELP.trim_end());
+            ExitCode::SUCCESS
+        }
+        Command::Test => test(),
+        Command::Soak { steps, runs, seed } => {
+            let soak = soak(seed, steps, runs);
+            status(soak.failures.is_empty())
+        }
+        Command::AgainFile(file) => again_file(&file),
+        Command::Again { seed, name } => again(seed, name),
+        Command::Decoder => decoder(),
+    }
+}
+
+fn status(good: bool) -> ExitCode {
+    ExitCode::from(if good { 0 } else { 1 })
+}
+
+fn usage(error: &str) -> ExitCode {
+    eprintln!("differ: {error}");
+    ExitCode::from(2)
+}
+
+/// A line on a terminal that is written over about once a second.
+struct Progress {
+    start: Instant,
+    last: Option<Instant>,
+    shown: bool,
+}
+
+impl Progress {
+    fn new() -> Progress {
+        Progress {
+            start: Instant::now(),
+            last: None,
+            shown: std::io::stderr().is_terminal(),
+        }
+    }
+
+    fn show(&mut self, line: impl FnOnce() -> String) {
+        let due = self
+            .last
+            .is_none_or(|last| last.elapsed() >= Duration::from_secs(1));
+        if self.shown && due {
+            self.last = Some(Instant::now());
+            eprint!("\r\x1b[K{}, {} s", line(), self.start.elapsed().as_secs());
+            let _ = std::io::stderr().flush();
+        }
+    }
+
+    /// Clears the line, so that other text can follow.
+    fn clear(&mut self) {
+        if self.shown && self.last.is_some() {
+            eprint!("\r\x1b[K");
+        }
+    }
+}
+
+fn test() -> ExitCode {
+    let soak = soak(TEST_SEED, TEST_STEPS, TEST_RUNS);
+    let complaints = soak.mix.complaints(true);
+    // A test that ended early because of differences has seen little: only these are said then.
+    if !complaints.is_empty() && !soak.done() {
+        say!("differ: FAILED: {}", complaints.join("; "));
+    }
+    status(complaints.is_empty() && soak.failures.is_empty())
+}
+
+/// Steps and runs by turns; 0 means until stopped. Prints the mix and the verdict.
+fn soak(seed: u64, steps: u64, runs: u64) -> Soak<Proved, Second> {
+    let mut soak = Soak::new(Proved, Second, seed);
+    let mut progress = Progress::new();
+    let (mut step, mut run, mut printed) = (0, 0, 0);
+    let more = |number, limit| limit == 0 || number < limit;
+    while !soak.done() && (more(step, steps) || more(run, runs)) {
+        let end = step + STEPS_AT_ONCE;
+        while !soak.done() && step < end && more(step, steps) {
+            soak.step(step);
+            step += 1;
+        }
+        let end = run + RUNS_AT_ONCE;
+        while !soak.done() && run < end && more(run, runs) {
+            soak.run(run);
+            run += 1;
+        }
+        for failure in &soak.failures[printed..] {
+            progress.clear();
+            print_failure(failure);
+        }
+        printed = soak.failures.len();
+        progress.show(|| format!("{step} steps, {run} runs, {printed} differences"));
+    }
+    progress.clear();
+    say!("{}", soak.mix.text().trim_end());
+    say!(
+        "differ: {} differences in {step} steps and {run} runs of seed {seed}, {:.1} s",
+        soak.failures.len(),
+        progress.start.elapsed().as_secs_f64()
+    );
+    soak
+}
+
+/// Where failing cases are written: target/differ of the repository that this was built in.
+fn folder() -> PathBuf {
+    Path::new(env!("CARGO_MANIFEST_DIR")).join("../../target/differ")
+}
+
+fn print_failure(failure: &Failure) {
+    say!("DIFFERENCE: {}", failure.title());
+    for line in &failure.differences {
+        say!("    {line}");
+    }
+    say!("  again: {}", failure.again());
+    match failure.save(&folder()) {
+        Ok(path) => {
+            let path = path.canonicalize().unwrap_or(path);
+            say!("  the call alone: tools/differ again {}", path.display());
+        }
+        Err(error) => say!(
+            "  its case could not be written to {}: {error}",
+            folder().display()
+        ),
+    }
+}
+
+fn again(seed: u64, name: Name) -> ExitCode {
+    let mut soak = Soak::new(Proved, Second, seed);
+    match name {
+        Name::Step(number) => soak.step(number),
+        Name::Run(number) => soak.run(number),
+    }
+    for failure in &soak.failures {
+        print_failure(failure);
+    }
+    if soak.failures.is_empty() {
+        say!("differ: no difference in {name} of seed {seed}");
+    }
+    status(soak.failures.is_empty())
+}
+
+fn again_file(file: &str) -> ExitCode {
+    let read = std::fs::read_to_string(file).map_err(|error| format!("cannot be read: {error}"));
+    let case: Case = match read.and_then(|read| text::read(&read)) {
+        Ok(case) => case,
+        Err(error) => return usage(&format!("{file}: {error}")),
+    };
+    let mut pair = Pair::default();
+    let same = pair.agree(&Proved, &Second, &case);
+    say!(
+        "{file}: {}",
+        if same { "no difference" } else { "DIFFERENCE" }
+    );
+    for line in pair.differences() {
+        say!("    {line}");
+    }
+    status(same)
+}
+
+fn decoder() -> ExitCode {
+    let done = AtomicU64::new(0);
+    let mut progress = Progress::new();
+    let verdicts = std::thread::scope(|scope| {
+        let work = scope
+            .spawn(|| decoder::compare(sporhulma::family, second::family, decoder::WORDS, &done));
+        while !work.is_finished() {
+            let percent = done.load(Relaxed) * 100 / decoder::WORDS;
+            progress.show(|| format!("{percent} % of 2^32 words"));
+            std::thread::sleep(Duration::from_millis(100));
+        }
+        work.join().expect("the comparison panicked")
+    });
+    progress.clear();
+    for (family, (name, count)) in FAMILIES.iter().zip(verdicts.counts).enumerate() {
+        say!("{family:>2} {name:<10} {count:>11}");
+    }
+    for (word, left, right) in &verdicts.first {
+        say!("DIFFERENCE: {word:#010x}: proved {left}, second {right}");
+    }
+    say!(
+        "differ: {} differences in {} words, {:.1} s",
+        verdicts.differences,
+        decoder::WORDS,
+        progress.start.elapsed().as_secs_f64()
+    );
+    status(verdicts.differences == 0)
+}

@@ -1,0 +1,42 @@
+//! The two simulators behind one small trait, so that the comparison can also be tried with an impostor.
+
+use crate::case::Call;
+use sporhulma::{Answer, Hart};
+
+pub trait Simulator {
+    fn call(&self, call: Call, hart: &mut Hart, mem: &mut [u8], map: &[u64]) -> Answer;
+}
+
+/// The proved one.
+pub struct Proved;
+
+/// The independent one.
+pub struct Second;
+
+impl Simulator for Proved {
+    fn call(&self, call: Call, hart: &mut Hart, mem: &mut [u8], map: &[u64]) -> Answer {
+        match call {
+            Call::Step => sporhulma::step(hart, mem, map),
+            Call::StepWord(word) => sporhulma::step_word(hart, mem, map, word),
+            Call::Run(budget) => sporhulma::run(hart, mem, map, budget),
+        }
+    }
+}
+
+impl Simulator for Second {
+    fn call(&self, call: Call, hart: &mut Hart, mem: &mut [u8], map: &[u64]) -> Answer {
+        let mut own = second::Hart::from_words(&hart.x, &hart.rest);
+        let answer = match call {
+            Call::Step => second::step(&mut own, mem, map),
+            Call::StepWord(word) => second::step_word(&mut own, mem, map, word),
+            Call::Run(budget) => second::run(&mut own, mem, map, budget),
+        };
+        (hart.x, hart.rest) = own.to_words();
+        Answer {
+            refusal: answer.refusal,
+            count: answer.count,
+            trapped: answer.trapped,
+            cause: answer.cause,
+        }
+    }
+}

@@ -1,0 +1,152 @@
+//! The hart's words of a case: mode, CSRs and registers, legal ones, biased to what decides; and what follows from them.
+
+use crate::case::{Case, PAGE};
+use crate::random::Random;
+use crate::world::{Role, World};
+use sporhulma::word::*;
+
+/// UXL and SXL as every mstatus word holds them.
+pub const XLENS: u64 = sporhulma::MSTATUS_CLEAR;
+/// The bits of mstatus that a write may change.
+pub const STATUS: u64 =
+    1 << 1 | 1 << 3 | 1 << 5 | 1 << 7 | 1 << 8 | MPP | MPRV | SUM | MXR | 1 << 23 | 1 << 41;
+pub const MPP: u64 = 3 << 11;
+pub const MPRV: u64 = 1 << 17;
+pub const SUM: u64 = 1 << 18;
+pub const MXR: u64 = 1 << 19;
+pub const DELEGATED: u64 = 0x4B3FF;
+pub const LPE: u64 = 1 << 2;
+pub const SSE: u64 = 1 << 3;
+pub const MLPE: u64 = 1 << 10;
+pub const PMM: u64 = 3 << 32;
+pub const SV39: u64 = 8 << 60;
+
+/// What a case's state means for the next instruction: only to aim at what matters, no answer depends on it.
+#[derive(Clone, Copy)]
+pub struct View {
+    pub mode: u64,
+    /// The mode of loads, stores and swaps.
+    pub data_mode: u64,
+    pub fetch_sv39: bool,
+    pub data_sv39: bool,
+    /// How many upper bits are masked in data addresses, and would be in the fetch address if it were masked.
+    pub data_masked: u32,
+    pub fetch_masked: u32,
+    pub pads: bool,
+}
+
+impl View {
+    pub fn of(rest: &[u64; 20]) -> View {
+        let mode = rest[MODE];
+        let mprv = mode == 3 && rest[MSTATUS] & MPRV != 0;
+        let data_mode = if mprv {
+            (rest[MSTATUS] & MPP) >> 11
+        } else {
+            mode
+        };
+        let sv39 = |mode| mode < 3 && rest[SATP] == SV39;
+        View {
+            mode,
+            data_mode,
+            fetch_sv39: sv39(mode),
+            data_sv39: sv39(data_mode),
+            data_masked: masked(rest, data_mode),
+            fetch_masked: masked(rest, mode),
+            pads: match mode {
+                0 => rest[SENVCFG] & LPE != 0,
+                1 => rest[MENVCFG] & LPE != 0,
+                _ => rest[MSECCFG] & MLPE != 0,
+            },
+        }
+    }
+}
+
+fn masked(rest: &[u64; 20], mode: u64) -> u32 {
+    let word = match mode {
+        0 => rest[SENVCFG],
+        1 => rest[MENVCFG],
+        _ => rest[MSECCFG],
+    };
+    match (word & PMM) >> 32 {
+        2 => 7,
+        3 => 16,
+        _ => 0,
+    }
+}
+
+fn sometimes(random: &mut Random, percent: u64, bits: u64) -> u64 {
+    if random.chance(percent) {
+        bits
+    } else {
+        0
+    }
+}
+
+/// The words that decide how an instruction runs. An effective mode below M and Sv39 are frequent.
+pub fn settings(random: &mut Random, case: &mut Case) {
+    let rest = &mut case.hart.rest;
+    rest[MODE] = random.pick(&[0, 0, 0, 1, 1, 1, 3, 3]);
+    rest[SATP] = sometimes(random, 75, SV39);
+    let mpp = random.pick(&[0, 0, 1, 1, 3]) << 11;
+    let often = MPRV | SUM | MXR;
+    rest[MSTATUS] = XLENS | random.word() & STATUS & !(MPP | often) | mpp;
+    rest[MSTATUS] |= sometimes(random, 50, MPRV) | sometimes(random, 70, SUM);
+    rest[MSTATUS] |= sometimes(random, 50, MXR);
+    for (word, enables) in [
+        (MENVCFG, [LPE, SSE]),
+        (SENVCFG, [LPE, SSE]),
+        (MSECCFG, [MLPE, 0]),
+    ] {
+        rest[word] = random.pick(&[0, 2, 3]) << 32;
+        rest[word] |= sometimes(random, 40, enables[0]) | sometimes(random, 80, enables[1]);
+    }
+    rest[MEDELEG] = match random.below(4) {
+        0 => 0,
+        1 => DELEGATED,
+        _ => random.word() & DELEGATED,
+    };
+    rest[ELP] = u64::from(random.chance(15));
+}
+
+/// The words that only keep something: scratch, cause, tval, the handlers' addresses and where they return to;
+/// `astray` of a hundred of these addresses point anywhere.
+pub fn keepers(random: &mut Random, world: &World, astray: u64, case: &mut Case) {
+    let sv39 = case.hart.rest[SATP] == SV39;
+    let rest = &mut case.hart.rest;
+    for word in [SSCRATCH, SCAUSE, STVAL, MSCRATCH, MCAUSE, MTVAL] {
+        rest[word] = random.word();
+    }
+    rest[STVEC] = world.at(Role::Handler, sv39, PAGE / 2);
+    rest[MTVEC] = world.at(Role::Handler, false, 0);
+    rest[SEPC] = world.at(Role::Code, sv39, random.below(PAGE / 4) * 4);
+    rest[MEPC] = world.at(Role::Code, sv39, random.below(PAGE / 4) * 4);
+    for word in [STVEC, MTVEC, SEPC, MEPC] {
+        if random.chance(astray) {
+            rest[word] = random.word() & !3;
+        }
+    }
+}
+
+/// Values for the registers: small, near the ends of each width, or any.
+pub fn registers(random: &mut Random, case: &mut Case) {
+    const ENDS: [u64; 8] = [
+        0,
+        1,
+        u64::MAX,
+        1 << 63,
+        (1 << 63) - 1,
+        1 << 31,
+        (1 << 31) - 1,
+        0xFFFF_FFFF,
+    ];
+    case.hart.x[0] = 0;
+    for register in &mut case.hart.x[1..] {
+        let word = random.word();
+        *register = match word & 7 {
+            0 => ENDS[(word >> 3) as usize & 7],
+            1 => word >> 56,
+            2 => !(word >> 56),
+            _ => word,
+        };
+    }
+}

@@ -1,0 +1,217 @@
+//! Random programs, step by step beside QEMU: before each instruction, pc, the mode, all 32
+//! registers and the thirteen CSRs that both have must be equal, on the proved simulator and on the
+//! second one.
+//!
+//! The hart starts with the registers that QEMU's boot code leaves. Where an address has nothing to
+//! fetch, QEMU's log has no entry before the fault, so that our side takes two steps there. Two
+//! differences in tval are known (`Choice`): there our value is checked by itself and then set to
+//! QEMU's, so that the programs stay together. What programs do not do, because the two may differ
+//! there, is written in program/body.rs, program/csrs.rs and, for MPRV, program.rs.
+
+use crate::gnu;
+use crate::program::{generate, Program, BASE};
+use crate::qemu::{self, Entry, Qemu, LOGGED};
+use crate::report::Report;
+use crate::side::{proved, second, Side};
+use sporhulma::word::{MODE, MTVAL, PC, STVAL};
+use sporhulma::{Hart, REST};
+use std::ops::Range;
+
+/// After so many programs with a difference, the rest would tell nothing new.
+const ENOUGH: u64 = 5;
+
+pub fn compare(seed: u64, programs: Range<u64>) -> Result<u64, String> {
+    let mut report = Report::new("qemu");
+    let (mut steps, mut run) = (0, 0);
+    for number in programs {
+        report.progress(format!("program {number}, {steps} instructions so far"));
+        let program = generate(seed, number);
+        let place = format!("tools/outside qemu --seed {seed} --program {number}");
+        steps += one_program(&mut report, &program, &place)
+            .map_err(|wrong| format!("{place}: {wrong}"))?;
+        run += 1;
+        if report.differences() >= ENOUGH {
+            break;
+        }
+    }
+    Ok(report.finish(format!(
+        "{steps} instructions in {run} programs, seed {seed}, {}",
+        qemu::version()?
+    )))
+}
+
+/// Runs one program up to its end or to the first difference; gives the number of instructions.
+fn one_program(report: &mut Report, program: &Program, place: &str) -> Result<u64, String> {
+    let image = gnu::file("program.bin")?;
+    gnu::write(&image, &program.image)?;
+    let mut qemu = Qemu::start(&image)?;
+    let mut entry = qemu.entry()?;
+    while entry.rest[PC] != BASE {
+        entry = qemu.entry()?;
+    }
+    let mut sides = [proved(), second()].map(|simulator| Side::new(simulator, &program.image));
+    sides.iter_mut().for_each(|side| side.hart.x = entry.x);
+    let mut steps = 0;
+    while sides[0].pc() != program.end {
+        tally(report, &sides[0]);
+        entry = qemu.entry()?;
+        steps += 1;
+        for side in &mut sides {
+            if let Err(different) = one_step(report, side, &entry) {
+                let name = side.simulator.name;
+                report.difference(format!("step {steps}, {name} {different}; again: {place}"));
+                return Ok(steps);
+            }
+        }
+    }
+    Ok(steps)
+}
+
+/// Takes `side` to where QEMU's next entry is and compares; an error says what differs.
+fn one_step(report: &mut Report, side: &mut Side, entry: &Entry) -> Result<(), String> {
+    let (pc, word) = (side.pc(), side.word());
+    let text = word.map_or("nothing".to_string(), |word| disasm::text(word, pc));
+    let at = |different: String| format!("at {pc:#x}, `{text}`: {different}");
+    let mut cause = side.step().map_err(at)?;
+    if cause.is_none() && side.word().is_none() {
+        cause = side.step().map_err(at)?;
+    }
+    let name = side.simulator.name;
+    let tval = if side.hart.rest[MODE] == 3 {
+        MTVAL
+    } else {
+        STVAL
+    };
+    let choice = cause.zip(word).and_then(|(cause, word)| {
+        known_choice(cause, word, pc, side.hart.rest[tval], entry.rest[tval])
+    });
+    if let Some(choice) = choice {
+        side.hart.rest[tval] = entry.rest[tval];
+        report.count(format!("{name}: known choice: {}", choice.text()));
+    }
+    if let Some(cause) = cause {
+        report.count(format!("{name}: traps of cause {cause:>2}"));
+    }
+    match differences(&side.hart, entry) {
+        different if different.is_empty() => Ok(()),
+        different => Err(at(different.join("; "))),
+    }
+}
+
+/// Counts the instruction that is about to be executed.
+fn tally(report: &mut Report, side: &Side) {
+    const FAMILIES: [&str; 18] = [
+        "illegal",
+        "LUI",
+        "AUIPC",
+        "JAL",
+        "JALR",
+        "branch",
+        "load",
+        "store",
+        "OP-IMM",
+        "OP-IMM-32",
+        "OP",
+        "OP-32",
+        "FENCE",
+        "ECALL",
+        "EBREAK",
+        "SRET",
+        "MRET",
+        "CSR",
+    ];
+    let family = side.word().map_or(0, sporhulma::family) as usize;
+    report.count(format!(
+        "instructions: {}",
+        FAMILIES.get(family).unwrap_or(&"other")
+    ));
+    report.count(format!(
+        "instructions in {}",
+        ["U", "S", "?", "M"][side.hart.rest[MODE] as usize & 3]
+    ));
+}
+
+/// Where QEMU's tval and ours differ by a choice that is known.
+#[derive(Clone, Copy, PartialEq, Eq, Debug)]
+enum Choice {
+    /// EBREAK: the manual allows pc and 0. Document 01 has pc, QEMU 7.2 has 0.
+    Breakpoint,
+    /// A JAL or branch to a misaligned target: the manual has the target or 0. Document 01 has the
+    /// target; QEMU 7.2 has the jump's own pc, which is its mistake.
+    MisalignedTarget,
+}
+
+impl Choice {
+    fn text(self) -> &'static str {
+        match self {
+            Choice::Breakpoint => "EBREAK, tval is pc and not 0",
+            Choice::MisalignedTarget => "misaligned target, tval is the target and not pc",
+        }
+    }
+}
+
+/// The known choice by which the tvals differ; none if they are equal, or differ otherwise.
+fn known_choice(cause: u64, word: u32, pc: u64, ours: u64, theirs: u64) -> Option<Choice> {
+    match (cause, word & 0x7f) {
+        _ if ours == theirs => None,
+        (3, _) => (ours == pc && theirs == 0).then_some(Choice::Breakpoint),
+        (0, 0x63 | 0x6f) => (disasm::text(word, pc).ends_with(&format!("{ours:#x}"))
+            && theirs == pc)
+            .then_some(Choice::MisalignedTarget),
+        _ => None,
+    }
+}
+
+/// What differs, in words.
+fn differences(hart: &Hart, entry: &Entry) -> Vec<String> {
+    let line =
+        |name: &str, ours: u64, theirs: u64| format!("{name} is 0x{ours:x}, QEMU's 0x{theirs:x}");
+    let registers = (0..32)
+        .filter(|&n| hart.x[n] != entry.x[n])
+        .map(|n| line(disasm::register(n), hart.x[n], entry.x[n]));
+    let rest = LOGGED
+        .into_iter()
+        .filter(|&n| hart.rest[n] != entry.rest[n])
+        .map(|n| line(REST[n], hart.rest[n], entry.rest[n]));
+    registers.chain(rest).collect()
+}
+
+#[cfg(test)]
+mod tests {
+    use super::*;
+    use crate::qemu::tests::distinct;
+
+    #[test]
+    fn each_word_is_compared() {
+        let entry = distinct();
+        let hart = Hart {
+            x: entry.x,
+            rest: entry.rest,
+        };
+        assert!(differences(&hart, &entry).is_empty());
+        for n in 0..32 {
+            let mut wrong = hart;
+            wrong.x[n] ^= 1 << 63;
+            assert_eq!(differences(&wrong, &entry).len(), 1, "register {n}");
+        }
+        for n in LOGGED {
+            let mut wrong = hart;
+            wrong.rest[n] ^= 1;
+            assert_eq!(differences(&wrong, &entry).len(), 1, "{}", REST[n]);
+        }
+    }
+
+    #[test]
+    fn only_the_known_choices_pass() {
+        let (jal, ebreak, pc) = (0x0060006f, 0x00100073, BASE);
+        assert_eq!(known_choice(3, ebreak, pc, pc, 0), Some(Choice::Breakpoint));
+        assert_eq!(known_choice(3, ebreak, pc, pc + 4, 0), None);
+        assert_eq!(
+            known_choice(0, jal, pc, pc + 6, pc),
+            Some(Choice::MisalignedTarget)
+        );
+        assert_eq!(known_choice(0, jal, pc, pc + 2, pc), None);
+        assert_eq!(known_choice(0, jal, pc, pc + 6, 0), None);
+        assert_eq!(known_choice(2, jal, pc, pc, 0), None);
+    }
+}

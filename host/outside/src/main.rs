@@ -1,0 +1,81 @@
+//! `tools/outside`: the hart and its disassembler against what none of us wrote, QEMU and GNU's
+//! assembler and disassembler.
+//!
+//! This file reads the command line, runs the comparisons that were asked for and turns what they
+//! found into an exit status.
+
+mod assembler;
+mod encode;
+mod gnu;
+mod image;
+mod lockstep;
+mod objdump;
+mod options;
+mod program;
+mod qemu;
+mod random;
+mod report;
+mod side;
+mod words;
+
+use options::{Comparison, Options};
+use report::say;
+use std::process::ExitCode;
+
+const HELP: &str = "\
+tools/outside [COMPARISON] [OPTION ..]: the hart and its disassembler against QEMU and GNU binutils
+
+COMPARISON, all of them one after the other if none is given:
+  objdump   the text of many words, beside GNU objdump's
+  as        GNU as, reading that text, gives the word back
+  qemu      random programs, step by step beside QEMU's riscv64 system emulator
+  image     examples/torque, assembled again, is the committed image
+
+OPTION:
+  --seed S       where the random words and programs start from (default 1)
+  --programs N   how many programs QEMU runs (default 40)
+  --program N    only program number N of this seed
+
+Exit status: 0 no difference, 1 a difference, 2 wrong usage or a tool that failed.";
+
+fn main() -> ExitCode {
+    let given: Vec<String> = std::env::args().skip(1).collect();
+    let options = match options::read(&given) {
+        Ok(Some(options)) => options,
+        Ok(None) => {
+            say(HELP);
+            return ExitCode::SUCCESS;
+        }
+        Err(wrong) => return failed(&wrong),
+    };
+    match compare(&options) {
+        Ok(0) => {
+            say("outside: no difference");
+            ExitCode::SUCCESS
+        }
+        Ok(differences) => {
+            say(format!("outside: differences: {differences}"));
+            ExitCode::FAILURE
+        }
+        Err(wrong) => failed(&wrong),
+    }
+}
+
+fn failed(wrong: &str) -> ExitCode {
+    eprintln!("outside: {wrong}");
+    ExitCode::from(2)
+}
+
+/// Runs the comparisons, each of which prints its own summary; gives the number of differences.
+fn compare(options: &Options) -> Result<u64, String> {
+    let mut differences = 0;
+    for comparison in &options.comparisons {
+        differences += match comparison {
+            Comparison::Objdump => objdump::compare(options.seed)?,
+            Comparison::As => assembler::compare(options.seed)?,
+            Comparison::Qemu => lockstep::compare(options.seed, options.programs.clone())?,
+            Comparison::Image => image::compare()?,
+        };
+    }
+    Ok(differences)
+}

@@ -1,0 +1,123 @@
+//! The command line: which comparisons, from which seed, and which of the programs.
+
+use std::ops::Range;
+
+#[derive(Clone, Copy, PartialEq, Eq, Debug)]
+pub enum Comparison {
+    Objdump,
+    As,
+    Qemu,
+    Image,
+}
+
+const COMPARISONS: [(&str, Comparison); 4] = [
+    ("objdump", Comparison::Objdump),
+    ("as", Comparison::As),
+    ("qemu", Comparison::Qemu),
+    ("image", Comparison::Image),
+];
+
+#[derive(PartialEq, Eq, Debug)]
+pub struct Options {
+    pub comparisons: Vec<Comparison>,
+    pub seed: u64,
+    /// The numbers of the programs that QEMU runs.
+    pub programs: Range<u64>,
+}
+
+/// What `given` asks for; none if it asks for help.
+pub fn read(given: &[String]) -> Result<Option<Options>, String> {
+    let mut options = Options {
+        comparisons: Vec::new(),
+        seed: 1,
+        programs: 0..40,
+    };
+    let mut rest = given.iter();
+    while let Some(argument) = rest.next() {
+        match argument.as_str() {
+            "--help" | "-h" => return Ok(None),
+            "--seed" => options.seed = number(argument, rest.next())?,
+            "--programs" => options.programs = 0..number(argument, rest.next())?,
+            "--program" => {
+                let program = number(argument, rest.next())?;
+                options.programs = program..program.saturating_add(1);
+            }
+            name => options.comparisons.push(comparison(name)?),
+        }
+    }
+    if options.comparisons.is_empty() {
+        options.comparisons = COMPARISONS.map(|(_, comparison)| comparison).to_vec();
+    }
+    Ok(Some(options))
+}
+
+fn comparison(name: &str) -> Result<Comparison, String> {
+    let known = COMPARISONS.iter().find(|(known, _)| *known == name);
+    known.map(|(_, comparison)| *comparison).ok_or_else(|| {
+        format!("{name}: no such comparison or option; there are objdump, as, qemu, image, --seed S, --programs N and --program N")
+    })
+}
+
+fn number(option: &str, value: Option<&String>) -> Result<u64, String> {
+    let value =
+        value.ok_or_else(|| format!("{option}: a number must follow, such as {option} 7"))?;
+    value.parse().map_err(|_| {
+        format!("{option}: {value} is not a number from 0 to 18446744073709551615, such as 7")
+    })
+}
+
+#[cfg(test)]
+mod tests {
+    use super::*;
+
+    fn of(line: &str) -> Result<Option<Options>, String> {
+        read(
+            &line
+                .split_whitespace()
+                .map(str::to_string)
+                .collect::<Vec<_>>(),
+        )
+    }
+
+    #[test]
+    fn nothing_means_everything() {
+        let options = of("").unwrap().unwrap();
+        assert_eq!(
+            options.comparisons,
+            [
+                Comparison::Objdump,
+                Comparison::As,
+                Comparison::Qemu,
+                Comparison::Image
+            ]
+        );
+        assert_eq!((options.seed, options.programs), (1, 0..40));
+    }
+
+    #[test]
+    fn one_program_of_one_seed() {
+        let options = of("qemu --seed 9 --program 3").unwrap().unwrap();
+        assert_eq!(
+            options,
+            Options {
+                comparisons: vec![Comparison::Qemu],
+                seed: 9,
+                programs: 3..4
+            }
+        );
+        assert_eq!(of("qemu --help"), Ok(None));
+    }
+
+    #[test]
+    fn what_is_wrong_is_named() {
+        assert!(of("gdb")
+            .unwrap_err()
+            .starts_with("gdb: no such comparison or option"));
+        assert!(of("--seed")
+            .unwrap_err()
+            .starts_with("--seed: a number must follow"));
+        assert!(of("--seed x")
+            .unwrap_err()
+            .starts_with("--seed: x is not a number"));
+    }
+}

@@ -1,0 +1,82 @@
+//! Our two simulators, seen alike: the proved one and the second one, each with its own hart and
+//! memory, taken step by step.
+
+use crate::program::BASE;
+use sporhulma::word::PC;
+use sporhulma::Hart;
+
+/// A step of a hart with its memory and no map: the cause if it trapped; an error if it was
+/// refused.
+type Step = fn(&mut Hart, &mut [u8]) -> Result<Option<u64>, String>;
+
+#[derive(Clone, Copy)]
+pub struct Simulator {
+    pub name: &'static str,
+    step: Step,
+}
+
+pub fn proved() -> Simulator {
+    Simulator {
+        name: "sporhulma",
+        step: step_proved,
+    }
+}
+
+pub fn second() -> Simulator {
+    Simulator {
+        name: "second",
+        step: step_second,
+    }
+}
+
+fn step_proved(hart: &mut Hart, memory: &mut [u8]) -> Result<Option<u64>, String> {
+    let answer = sporhulma::step(hart, memory, &[]);
+    outcome(answer.refusal, answer.trapped, answer.cause)
+}
+
+fn step_second(hart: &mut Hart, memory: &mut [u8]) -> Result<Option<u64>, String> {
+    let mut stepped = ::second::Hart::from_words(&hart.x, &hart.rest);
+    let answer = ::second::step(&mut stepped, memory, &[]);
+    (hart.x, hart.rest) = stepped.to_words();
+    outcome(answer.refusal, answer.trapped, answer.cause)
+}
+
+fn outcome(refusal: u64, trapped: bool, cause: u64) -> Result<Option<u64>, String> {
+    match refusal {
+        0 => Ok(trapped.then_some(cause)),
+        _ => Err(format!("refusal {refusal}")),
+    }
+}
+
+/// A simulator with what it works on.
+pub struct Side {
+    pub simulator: Simulator,
+    pub hart: Hart,
+    memory: Vec<u8>,
+}
+
+impl Side {
+    pub fn new(simulator: Simulator, image: &[u8]) -> Side {
+        Side {
+            simulator,
+            hart: Hart::fresh(),
+            memory: image.to_vec(),
+        }
+    }
+
+    pub fn pc(&self) -> u64 {
+        self.hart.rest[PC]
+    }
+
+    /// The word at pc; none if pc is outside memory.
+    pub fn word(&self) -> Option<u32> {
+        let at = usize::try_from(self.pc().wrapping_sub(BASE)).ok()?;
+        let bytes = self.memory.get(at..at.checked_add(4)?)?;
+        Some(u32::from_le_bytes(bytes.try_into().expect("four bytes")))
+    }
+
+    /// One step: the cause if it trapped.
+    pub fn step(&mut self) -> Result<Option<u64>, String> {
+        (self.simulator.step)(&mut self.hart, &mut self.memory)
+    }
+}

@@ -1,0 +1,108 @@
+//! The boundary as callers see it: from Rust through the wrapper, and from C through the header.
+
+use sporhulma::{family, run, step, step_word, word, Answer, Hart, BASE};
+use std::path::{Path, PathBuf};
+use std::process::Command;
+
+/// addi a0, zero, 42
+const ADDI: u32 = 0x02A0_0513;
+const TAKEN: Answer = Answer {
+    refusal: 0,
+    count: 1,
+    trapped: false,
+    cause: 0,
+};
+
+fn memory(words: &[u32]) -> Vec<u8> {
+    let mut memory: Vec<u8> = words.iter().flat_map(|w| w.to_le_bytes()).collect();
+    memory.resize(4096, 0);
+    memory
+}
+
+#[test]
+fn a_step_fetches_and_a_given_word_does_not() {
+    let (mut fetched, mut given) = (Hart::fresh(), Hart::fresh());
+    assert_eq!(step(&mut fetched, &mut memory(&[ADDI]), &[]), TAKEN);
+    assert_eq!(step_word(&mut given, &mut memory(&[0]), &[], ADDI), TAKEN);
+    assert_eq!(fetched, given);
+    assert_eq!((fetched.x[10], fetched.rest[word::PC]), (42, BASE + 4));
+}
+
+#[test]
+fn a_run_counts_the_trapping_step() {
+    let mut hart = Hart::fresh();
+    let answer = run(&mut hart, &mut memory(&[ADDI, ADDI]), &[], 1_000_000);
+    let trapped = Answer {
+        refusal: 0,
+        count: 3,
+        trapped: true,
+        cause: 2,
+    };
+    assert_eq!(answer, trapped);
+    assert_eq!(hart.rest[word::MEPC], BASE + 8);
+}
+
+/// Each refusal, with the hart and memory as they were.
+#[test]
+fn a_refusal_changes_nothing() {
+    let mut elp = Hart::fresh();
+    elp.rest[word::ELP] = 2;
+    let fresh = Hart::fresh();
+    let refused: [(Hart, usize, &[u64], u64, u64); 5] = [
+        (elp, 4096, &[], 1, 1),
+        (
+            Hart {
+                x: [1; 32],
+                ..fresh
+            },
+            4096,
+            &[],
+            1,
+            1,
+        ),
+        (fresh, 4095, &[], 1, 2),
+        (fresh, 4096, &[0], 1, 3),
+        (fresh, 4096, &[], 1_000_001, 4),
+    ];
+    for (given, length, map, budget, number) in refused {
+        let (mut hart, mut bytes) = (given, vec![7; length]);
+        let answer = run(&mut hart, &mut bytes, map, budget);
+        let expected = Answer {
+            refusal: number,
+            count: 0,
+            trapped: false,
+            cause: 0,
+        };
+        assert_eq!((answer, hart), (expected, given));
+        assert_eq!(bytes, vec![7; length]);
+    }
+}
+
+#[test]
+fn a_word_has_its_family() {
+    assert_eq!((family(ADDI), family(0), family(0xCE10_4073)), (8, 0, 19));
+}
+
+/// examples/c/step.c by the C compiler, so that the header is read by one.
+#[test]
+fn the_header_serves_c() {
+    let root = Path::new(env!("CARGO_MANIFEST_DIR")).join("../..");
+    let program = PathBuf::from(env!("CARGO_TARGET_TMPDIR")).join("step");
+    let built = Command::new("cc")
+        .args(["-Wall", "-Wextra", "-Werror", "-pedantic", "-std=c11", "-I"])
+        .arg(root.join("include"))
+        .arg(root.join("examples/c/step.c"))
+        .arg(root.join("target/staticlib/libsporhulma.a"))
+        .arg("-o")
+        .arg(&program)
+        .output()
+        .expect("cc starts");
+    assert!(
+        built.status.success(),
+        "{}",
+        String::from_utf8_lossy(&built.stderr)
+    );
+    let ran = Command::new(&program).output().expect("the program starts");
+    let told = "refusal 0, count 1, a0 42, pc 0x80000004\nrefusal 1, count 0, pc 0x80000004\n";
+    assert_eq!(String::from_utf8_lossy(&ran.stdout), told);
+}
