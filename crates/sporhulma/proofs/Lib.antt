@@ -1,2 +1,3 @@
 -- The laws of the boundary.
+pub mod Handed
 pub mod Kept

@@ -1,6 +1,7 @@
 -- `sporhulma::sporhulma_run` meets its contract: words that are no hart are refused, else crate `machine` answers. Assumes nothing.
 use borrow.Author.Needs.{needs}
 use mathlib.Core.Path.{refl, sym, _∙_}
+use Rattle.sporhulma.proofs.Handed.{handed}
 use Rattle.sporhulma.specs.Boundary.{runLeft}
 use Rattle.sporhulma.proofs.sporhulma_run.Statement.{statement}
 use Rattle.sporhulma.proofs.sporhulma_run.Tie as tie
@@ -35,8 +36,7 @@ returns-2 c =
     let s = c .before .before .before .before .before .before in
     let w = s .before .before in
     let i = w .before .before .before in
-    let b = c .hand-back .ensures in
-    rw (sym (i .before .no-hart .ensures) ∙ i .if1 .left, ← w .of-words .ensures, ← s .run .ensures .0) (b .0, (b .1 .0, (b .1 .1 .0, (s .run .ensures .1, b .1 .1 .1))))
+    rw (sym (i .before .no-hart .ensures) ∙ i .if1 .left, ← w .of-words .ensures) (handed _ _ (s .run .ensures .0) (s .run .ensures .1) (c .hand-back .ensures))
 
 pub sporhulma-run-spec : {M : Type 1} → statement M
 sporhulma-run-spec =
