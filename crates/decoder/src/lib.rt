@@ -10,26 +10,26 @@ mod cfi;
 // ECALL, EBREAK, the returns and the CSR instructions.
 mod system;
 
-// The instruction that a word names.
+// The instruction that a word names. Each arm takes the word apart for itself: split before the match, every field of every word
+// would be computed, and in an arm the compiler keeps only those that the arm uses.
 pub fn decode(w: u32) -> Instruction
     ensures { λ r. ⌜ r ≡ decodeOf w ⌝ }
 {
-    let f = field::split(w);
     match w % 128 {
-        0b0110111 => Instruction::Lui(f.rd, immediate::imm_u(w)),
-        0b0010111 => Instruction::Auipc(f.rd, immediate::imm_u(w)),
-        0b1101111 => Instruction::Jal(f.rd, immediate::imm_j(w)),
-        0b1100111 => base::jalr(f, immediate::imm_i(w)),
-        0b1100011 => base::branch(f, immediate::imm_b(w)),
-        0b0000011 => base::load(f, immediate::imm_i(w)),
-        0b0100011 => base::store(f, immediate::imm_s(w)),
-        0b0010011 => base::op_imm(f, immediate::imm_i(w)),
-        0b0011011 => base::op_imm_32(f, immediate::imm_i(w)),
-        0b0110011 => base::op(f),
-        0b0111011 => base::op_32(f),
-        0b0001111 => base::misc_mem(w, f),
-        0b0101111 => cfi::swap(f),
-        0b1110011 => system::system(w, f),
+        0b0110111 => Instruction::Lui(field::split(w).rd, immediate::imm_u(w)),
+        0b0010111 => Instruction::Auipc(field::split(w).rd, immediate::imm_u(w)),
+        0b1101111 => Instruction::Jal(field::split(w).rd, immediate::imm_j(w)),
+        0b1100111 => base::jalr(field::split(w), immediate::imm_i(w)),
+        0b1100011 => base::branch(field::split(w), immediate::imm_b(w)),
+        0b0000011 => base::load(field::split(w), immediate::imm_i(w)),
+        0b0100011 => base::store(field::split(w), immediate::imm_s(w)),
+        0b0010011 => base::op_imm(field::split(w), immediate::imm_i(w)),
+        0b0011011 => base::op_imm_32(field::split(w), immediate::imm_i(w)),
+        0b0110011 => base::op(field::split(w)),
+        0b0111011 => base::op_32(field::split(w)),
+        0b0001111 => base::misc_mem(w, field::split(w)),
+        0b0101111 => cfi::swap(field::split(w)),
+        0b1110011 => system::system(w, field::split(w)),
         _ => Instruction::Illegal,
     }
 }
