@@ -4,7 +4,7 @@ ghost use mathlib.Core.Path.{_≡_};
 ghost use Rattle.address.specs.Cause.{misalignedOf, accessFaultOf, pageFaultOf};
 
 // Also a jump target's, which is a fetch to come.
-pub fn misaligned(k: Kind) -> u64
+pub fn misaligned(k: Kind) -> u8
     ensures { λ r. ⌜ r ≡ misalignedOf k ⌝ }
 {
     match k {
@@ -17,7 +17,7 @@ pub fn misaligned(k: Kind) -> u64
     }
 }
 
-pub fn access_fault(k: Kind) -> u64
+pub fn access_fault(k: Kind) -> u8
     ensures { λ r. ⌜ r ≡ accessFaultOf k ⌝ }
 {
     match k {
@@ -30,7 +30,7 @@ pub fn access_fault(k: Kind) -> u64
     }
 }
 
-pub fn page_fault(k: Kind) -> u64
+pub fn page_fault(k: Kind) -> u8
     ensures { λ r. ⌜ r ≡ pageFaultOf k ⌝ }
 {
     match k {

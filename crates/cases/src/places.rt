@@ -115,7 +115,7 @@ fn shown(p: Place) -> [u64; 3]
 {
     match p {
         Place::At(physical) => row(0, physical.number(), 0),
-        Place::Fault(cause, tval) => row(1, cause, tval),
+        Place::Fault(cause, tval) => row(1, cause as u64, tval),
     }
 }
 

@@ -27,6 +27,9 @@ pub struct Setting {
 }
 
 // What an instruction changes. `next` is pc after it.
+//
+// A cause is a u8, here as in `Place` and `Fetched`: as a u64 it would put a fault's tval at another offset than a place's one u64, LLVM would
+// join the stores of two arms into one through a chosen pointer, and the enum would live in memory and not in registers.
 pub enum Effect {
     // rd, value, next
     Write(u8, u64, u64),
@@ -44,7 +47,7 @@ pub enum Effect {
     Swap(u8, u64, Physical, Width, u64, u64),
     Whole(Whole),
     // cause, tval
-    Trap(u64, u64),
+    Trap(u8, u64),
 }
 
 // What changes more of a hart than registers, pc, ELP and ssp.

@@ -18,7 +18,7 @@ ghost use Rattle.execute.specs.Plan.{fetchedOf, isPad, landedOf, effectO
 // A word, or why there is none: cause and tval.
 pub enum Fetched {
     Word(u32),
-    Fault(u64, u64),
+    Fault(u8, u64),
 }
 
 fn fetch(source: Source, c: Control, pc: u64, mem: &[u8], map: &[u64]) -> Fetched

@@ -87,8 +87,9 @@ pub fn run(h: Hart, source: Source, mem: &mut [u8], map: &[u64], budget: u64) ->
                 s = d.setting(g.mode);
             }
             Effect::Trap(cause, tval) => {
-                g = g.trap(cause, tval);
-                return report(g, budget - left, true, cause);
+                let number = cause as u64;
+                g = g.trap(number, tval);
+                return report(g, budget - left, true, number);
             }
         }
     }

@@ -35,5 +35,5 @@ impl Physical {
 // Where an access goes, or why it does not: cause and tval.
 pub enum Place {
     At(Physical),
-    Fault(u64, u64),
+    Fault(u8, u64),
 }

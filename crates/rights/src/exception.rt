@@ -4,7 +4,7 @@ ghost use mathlib.Core.Path.{_≡_};
 ghost use Rattle.rights.specs.Exception.{illegalOf, breakpointOf, callOf};
 
 pub struct Exception {
-    pub cause: u64,
+    pub cause: u8,
     pub tval: u64,
 }
 

@@ -150,6 +150,7 @@ run-spec =
     (λ c. search needs)
     loop-again-8
     (λ c. search needs)
+    (λ c. search needs)
     (λ c κs. search needs)
     sub-report
     (λ c κs. search needs)
