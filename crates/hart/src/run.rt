@@ -2,13 +2,14 @@
 //
 // The loop keeps one hart and changes it in place, since each copy of the registers costs more than an instruction; and it is
 // the one place that asks for an effect, so that all of a step is compiled into it. The language has no `&mut` of a struct, so
-// the arms that change the hart stand in the loop.
+// the arms that change the hart stand in the loop. The stores stand in them too: a function that stores an effect's bytes would
+// be a second match on the effect, which every step pays for.
 use super::Hart;
 use effect::Effect;
 use effect::register;
 use execute::Source;
 use execute::plan;
-use transfer::commit;
+use isa::Width;
 ghost use mathlib.Core.Path.{_≡_};
 ghost use Prim.Native.Nat.{_^_, _≤_};
 ghost use lib.ListN.{length};
@@ -49,7 +50,6 @@ pub fn run(h: Hart, source: Source, mem: &mut [u8], map: &[u64], budget: u64) ->
         let elp = g.elp;
         let ssp = g.ssp;
         let e = plan::plan(from, &g.x, pc, elp, ssp, s, mem, map);
-        commit::commit(mem, e);
         from = Source::Fetch;
         left = left - 1;
         match e {
@@ -66,10 +66,12 @@ pub fn run(h: Hart, source: Source, mem: &mut [u8], map: &[u64], budget: u64) ->
                 g.pc = next;
                 g.elp = false;
             }
-            Effect::Store(_, _, _, next) => {
+            Effect::Store(q, w, v, next) => {
+                memory::store(mem, q.index(), w, v);
                 g.pc = next;
             }
-            Effect::Push(_, _, top, next) => {
+            Effect::Push(q, v, top, next) => {
+                memory::store(mem, q.index(), Width::Double, v);
                 g.ssp = top;
                 g.pc = next;
             }
@@ -77,7 +79,8 @@ pub fn run(h: Hart, source: Source, mem: &mut [u8], map: &[u64], budget: u64) ->
                 g.ssp = top;
                 g.pc = next;
             }
-            Effect::Swap(rd, v, _, _, _, next) => {
+            Effect::Swap(rd, v, q, w, stored, next) => {
+                memory::store(mem, q.index(), w, stored);
                 register::put(&mut g.x, rd, v);
                 g.pc = next;
             }
