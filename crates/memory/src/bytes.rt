@@ -3,7 +3,7 @@ ghost use mathlib.Core.Path.{_≡_};
 ghost use mathlib.Core.List.{_++_};
 ghost use Prim.Native.Nat.{_+_, _^_, _<_, _≤_};
 ghost use lib.ListN.{length, drop};
-ghost use Rattle.memory.specs.Bytes.{loadOf, bytesOf};
+ghost use Rattle.memory.specs.Bytes.{loadOf, bytesOf, storeOf};
 
 fn wide(x: u8) -> u64
     ensures { λ r. ⌜ (r ≡ x) × (r < 256) ⌝ }
@@ -37,4 +37,12 @@ pub fn write(part: &mut [u8], n: usize, v: u64)
         rest = rest / 256;
         i = i + 1;
     }
+}
+
+// The n bytes at a place become those of v.
+pub fn put(mem: &mut [u8], at: usize, n: usize, v: u64)
+    requires { ⌜ at + n ≤ length (now mem) ⌝ }
+    ensures { λ _. ⌜ now (mem .exit) ≡ storeOf (now (mem .entry)) at n v ⌝ }
+{
+    write(&mut mem[at..], n, v);
 }

@@ -3,7 +3,6 @@
 // A place in memory is an index here; which address stands for it, and who may use it, is the business
 // of crate `place`.
 use isa::Width;
-use isa::size;
 use word::sign;
 ghost use mathlib.Core.Path.{_≡_};
 ghost use Prim.Native.Nat.{_+_, _≤_};
@@ -16,12 +15,18 @@ ghost use Rattle.memory.specs.Refusal.{refusedOf};
 // The two loops over the bytes of an access.
 mod bytes;
 
-// The number at a place, its upper bits zero.
+// The number at a place, its upper bits zero. Here and in `store` each width has its number of bytes written out: so the compiler makes one
+// access of the loop.
 pub fn load(mem: &[u8], at: usize, w: Width) -> u64
     requires { ⌜ at + sizeOf w ≤ length (now mem) ⌝ }
     ensures { λ r. ⌜ r ≡ loadOf (now (mem .entry)) at (sizeOf w) ⌝ }
 {
-    bytes::read(mem, at, size::bytes(w) as usize)
+    match w {
+        Width::Byte => bytes::read(mem, at, 1),
+        Width::Half => bytes::read(mem, at, 2),
+        Width::Word => bytes::read(mem, at, 4),
+        Width::Double => bytes::read(mem, at, 8),
+    }
 }
 
 // The four bytes of an instruction word.
@@ -59,7 +64,12 @@ pub fn store(mem: &mut [u8], at: usize, w: Width, v: u64)
     requires { ⌜ at + sizeOf w ≤ length (now mem) ⌝ }
     ensures { λ _. ⌜ now (mem .exit) ≡ storeOf (now (mem .entry)) at (sizeOf w) v ⌝ }
 {
-    bytes::write(&mut mem[at..], size::bytes(w) as usize, v);
+    match w {
+        Width::Byte => bytes::put(mem, at, 1, v),
+        Width::Half => bytes::put(mem, at, 2, v),
+        Width::Word => bytes::put(mem, at, 4, v),
+        Width::Double => bytes::put(mem, at, 8, v),
+    }
 }
 
 // Refusal 2, of memory of this length.

@@ -1,6 +1,4 @@
--- `memory::store` meets its contract: the part that was lent, back in the whole. Assumes nothing.
-use native.Mathlib.Omega.{arith}
-use Rattle.memory.proofs.Turns.{stored-at}
+-- `memory::store` meets its contract: a width an arm, `bytes::put` of its size. Assumes nothing.
 use borrow.Author.Needs.{needs}
 use Rattle.memory.proofs.store.Statement.{statement}
 use Rattle.memory.proofs.store.Tie as tie
@@ -10,9 +8,18 @@ store-spec =
     tie.close
     (tie.spec
     (λ c. search needs)
+    (λ c κs. rw (c .before .enum-told .given .1) at (c .before .before .before .before .pre))
     (λ c. search needs)
+    (λ c κs. rw (c .before .enum-told2 .given .1) at (c .before .before .before .before .pre))
     (λ c. search needs)
-    (λ c κs. search needs)
-    (λ c κs. search needs)
+    (λ c κs. rw (c .before .enum-told3 .given .1) at (c .before .before .before .before .pre))
     (λ c. search needs)
-    (λ c. let s = c .before .before .before .before .before .before in let e = c .before .before .before .bytes .ensures .0 in rw (← e) (stored-at (s .args .mem .now) _ (s .args .at) _ (s .args .v) (omega arith) (c .before .before .write .ensures))))
+    (λ c κs. rw (c .before .enum-told4 .given .1) at (c .before .before .before .before .pre))
+    (λ c. search needs)
+    (λ c. rw (c .before .before .before .before .enum-told .given .1) (c .before .before .put .ensures))
+    (λ c. search needs)
+    (λ c. rw (c .before .before .before .before .enum-told2 .given .1) (c .before .before .put2 .ensures))
+    (λ c. search needs)
+    (λ c. rw (c .before .before .before .before .enum-told3 .given .1) (c .before .before .put3 .ensures))
+    (λ c. search needs)
+    (λ c. rw (c .before .before .before .before .enum-told4 .given .1) (c .before .before .put4 .ensures)))
