@@ -1,2 +1,3 @@
 -- The laws of leaves that belong to no one function.
 pub mod Grants
+pub mod Shortcut

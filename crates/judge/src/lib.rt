@@ -12,7 +12,12 @@ use page::kinds::is_fetch;
 use page::kinds::is_shadow;
 use page::kinds::writes;
 ghost use mathlib.Core.Path.{_≡_};
+ghost use Rattle.page.specs.declared.Kind.the-variants.{Fetch};
+ghost use Rattle.leaf.specs.Leaf.{leafOf};
 ghost use Rattle.judge.specs.Judge.{userBit, offReadOnly, ownPage, readable, permits, accessedDirty, decideOf, judgeOf};
+
+// The usual grant, by a few bits of the leaf's word.
+mod usual;
 
 pub enum Verdict {
     Granted,
@@ -145,4 +150,24 @@ pub fn judge(g: Regime, k: Kind, l: Leaf) -> Verdict
         permits(k, read, l),
         accessed_dirty(writes(k), l),
     )
+}
+
+// What the leaf of this word says to an access: the usual grant at once, anything else by the steps.
+pub fn judge_word(g: Regime, k: Kind, e: u64) -> Verdict
+    ensures { λ r. ⌜ r ≡ judgeOf g k (leafOf e) ⌝ }
+{
+    if usual::grants(g, k, e) {
+        return Verdict::Granted;
+    }
+    judge(g, k, leaf::bits(e))
+}
+
+// The same for a fetch. On its own, since every step of a run makes one: so the tests are compiled into the run's loop, with the kind known.
+pub fn judge_fetch(g: Regime, e: u64) -> Verdict
+    ensures { λ r. ⌜ r ≡ judgeOf g Fetch (leafOf e) ⌝ }
+{
+    if usual::grants(g, Kind::Fetch, e) {
+        return Verdict::Granted;
+    }
+    judge(g, Kind::Fetch, leaf::bits(e))
 }
