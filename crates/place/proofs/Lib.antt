@@ -1,2 +1,3 @@
 -- The laws of a place that belong to no one function.
+pub mod Entry
 pub mod Reach

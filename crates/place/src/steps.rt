@@ -20,7 +20,10 @@ ghost use mathlib.Core.Path.{_≡_};
 ghost use Prim.Native.Nat.{_^_, _≤_};
 ghost use Rattle.isa.specs.declared.Width.the-variants.{Word};
 ghost use Rattle.page.specs.declared.Kind.the-variants.{Fetch};
-ghost use Rattle.place.specs.Place.{withinOf, insideOf, canonicalOf, settleOf, throughOf, pagedPlaceOf, plainPlaceOf, placeOf};
+ghost use Rattle.page.specs.declared.map.Found.the-variants.{Absent};
+ghost use Rattle.page.specs.Map.{lookupOf};
+ghost use Rattle.word.specs.Choice.{pick};
+ghost use Rattle.place.specs.Place.{withinOf, insideOf, canonicalOf, pageNumber, physicalOf, settleOf, throughOf, pagedPlaceOf, plainPlaceOf, placeOf};
 
 // Step 9's test: all n bytes from p on lie in memory of this length.
 fn within(len: u64, p: u64, n: u64) -> bool
@@ -54,6 +57,23 @@ fn canonical(t: u64) -> bool
     t / 0x80_0000_0000 == t / 0x40_0000_0000 % 2 * 0x1ff_ffff
 }
 
+// Step 5: what the map has for the address's page; for one that is not canonical, nothing.
+fn found(t: Virtual, map: &[u64]) -> Found
+    ensures { λ r. ⌜ r ≡ pick (canonicalOf (t .0)) (lookupOf (now (map .entry)) (pageNumber (t .0))) Absent ⌝ }
+{
+    if canonical(t.0) {
+        return map::lookup(map, t.0 / 4096 % 0x800_0000);
+    }
+    Found::Absent
+}
+
+// Where the leaf of this word leads.
+fn physical(e: u64, t: Virtual) -> Physical
+    ensures { λ r. ⌜ r .0 ≡ physicalOf e (t .0) ⌝ }
+{
+    Physical(e / 1024 % 0x1000_0000_0000 * 4096 + t.0 % 4096)
+}
+
 fn settle(v: Verdict, k: Kind, w: Width, len: u64, p: Physical, t: Virtual) -> Place
     requires { ⌜ len ≤ 2 ^ 20 ⌝ }
     ensures { λ r. ⌜ r ≡ settleOf v k w len (p .0) (t .0) ⌝ }
@@ -72,10 +92,7 @@ fn through(f: Found, g: Regime, k: Kind, w: Width, len: u64, t: Virtual) -> Plac
 {
     match f {
         Found::Absent => Place::Fault(cause::page_fault(k), t.0),
-        Found::Leaf(e) => {
-            let p = Physical(e / 1024 % 0x1000_0000_0000 * 4096 + t.0 % 4096);
-            settle(judge::judge(g, k, leaf::bits(e)), k, w, len, p, t)
-        }
+        Found::Leaf(e) => settle(judge::judge_word(g, k, e), k, w, len, physical(e, t), t),
     }
 }
 
@@ -84,10 +101,25 @@ fn paged(g: Regime, k: Kind, w: Width, t: Virtual, map: &[u64], len: u64) -> Pla
     requires { ⌜ len ≤ 2 ^ 20 ⌝ }
     ensures { λ r. ⌜ r ≡ pagedPlaceOf g k w (t .0) (now (map .entry)) len ⌝ }
 {
-    if canonical(t.0) {
-        return through(map::lookup(map, t.0 / 4096 % 0x800_0000), g, k, w, len, t);
+    through(found(t, map), g, k, w, len, t)
+}
+
+// The same for a fetch, which `fetch` alone calls: so it is compiled into the run's loop too.
+fn paged_fetch(g: Regime, t: Virtual, map: &[u64], len: u64) -> Place
+    requires { ⌜ len ≤ 2 ^ 20 ⌝ }
+    ensures { λ r. ⌜ r ≡ pagedPlaceOf g Fetch Word (t .0) (now (map .entry)) len ⌝ }
+{
+    match found(t, map) {
+        Found::Absent => Place::Fault(cause::page_fault(Kind::Fetch), t.0),
+        Found::Leaf(e) => settle(
+            judge::judge_fetch(g, e),
+            Kind::Fetch,
+            Width::Word,
+            len,
+            physical(e, t),
+            t,
+        ),
     }
-    Place::Fault(cause::page_fault(k), t.0)
 }
 
 // Steps 4 and 9, in M or Bare, where the address is the physical one.
@@ -110,7 +142,7 @@ pub fn fetch(c: Control, a: Virtual, map: &[u64], len: u64) -> Place
     let m = c.mode;
     if align::aligned(Width::Word, a) {
         if control::paged(c, m) {
-            return paged(control::regime(c, m), Kind::Fetch, Width::Word, a, map, len);
+            return paged_fetch(control::regime(c, m), a, map, len);
         }
         return plain(Kind::Fetch, Width::Word, a, len);
     }

@@ -9,7 +9,7 @@ use Rattle.place.proofs.steps.fetch.Tie as tie
 
 returns : tie.Need-returns
 unfolding placeOf reachedOf modeOf transformedOf
-returns c = let p = c .before .before .before in let b = p .before .before in rw (sym (b .aligned .ensures) ∙ p .before .if1 .taken, sym (p .paged .ensures) ∙ c .before .before .if2 .taken, ← c .before .regime .ensures) (c .paged2 .ensures)
+returns c = let p = c .before .before .before in let b = p .before .before in rw (sym (b .aligned .ensures) ∙ p .before .if1 .taken, sym (p .paged .ensures) ∙ c .before .before .if2 .taken, ← c .before .regime .ensures) (c .paged-fetch .ensures)
 
 returns-2 : tie.Need-returns-2
 unfolding placeOf reachedOf modeOf transformedOf

@@ -10,7 +10,7 @@ returns c = rw (c .before .enum-told .given .1, c .page-fault .ensures)
 
 returns-2 : tie.Need-returns-2
 unfolding throughOf
-returns-2 c = rw (c .before .before .before .before .before .f .given .1, ← c .before .before .bits .ensures, ← c .before .judge .ensures) (c .settle .ensures)
+returns-2 c = rw (c .before .before .before .before .f .given .1, ← c .before .before .judge-word .ensures, ← c .before .physical .ensures) (c .settle .ensures)
 
 pub through-spec : {M : Type 1} → statement M
 through-spec =
@@ -18,8 +18,6 @@ through-spec =
     (tie.spec
     (λ c. search needs)
     (λ c κs. search needs)
-    (λ c. search needs)
-    (λ c. search needs)
     (λ c. search needs)
     (λ c κs. search needs)
     (λ c κs. search needs)
