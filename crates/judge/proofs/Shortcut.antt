@@ -1,7 +1,7 @@
 -- What the usual grant grants, steps 5 to 8 grant.
 -- Assumes nothing.
 use mathlib.Core.Path.{_≡_, refl}
-use mathlib.Core.Bool.{Bool, true, false, _&&_, _||_, not}
+use mathlib.Core.Bool.{Bool, true, false, _&&_, not}
 use borrow.Author.Tests.{not-true}
 use Rattle.word.proofs.Bools.{both}
 use Rattle.page.specs.Kinds.{isShadow, isFetch, writes}

@@ -1,5 +1,4 @@
 -- `memory::bytes::put` meets its contract: the part that was lent, back in the whole. Assumes nothing.
-use native.Mathlib.Omega.{arith}
 use Rattle.memory.proofs.Turns.{stored-at}
 use borrow.Author.Needs.{needs}
 use Rattle.memory.proofs.bytes.put.Statement.{statement}
