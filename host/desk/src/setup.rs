@@ -60,9 +60,9 @@ impl Job {
         Ok(Job {
             expect: given.parsed("--expect", expect)?,
             trace: trace || given.has("--trace-to"),
-            trace_to: given.parsed("--trace-to", Output::open)?,
+            trace_to: output(given, "--trace-to")?,
             registers: given.has("--registers"),
-            save: given.parsed("--save", Output::open)?,
+            save: output(given, "--save")?,
             state,
             map,
             limits,
@@ -102,6 +102,26 @@ fn memory(given: &Given) -> Result<Vec<u8>, Failure> {
     }
     mem.resize(length as usize, 0);
     Ok(mem)
+}
+
+/// The file that an option names, open for writing; it must be none that would be lost by that.
+fn output(given: &Given, option: &str) -> Result<Option<Output>, Failure> {
+    let trace = given.one("--trace-to").filter(|_| option != "--trace-to");
+    let others = [
+        ("the image", given.places.first().map(String::as_str)),
+        ("the page map", given.one("--map")),
+        ("the trace", trace),
+    ];
+    given.parsed(option, |path| {
+        let output = Output::open(path)?;
+        let lost = |other: &&(&str, Option<&str>)| other.1.is_some_and(|other| output.is(other));
+        match others.iter().find(lost) {
+            Some((what, _)) => Err(format!(
+                "'{path}' is {what}, which would be lost; give another file"
+            )),
+            None => Ok(output),
+        }
+    })
 }
 
 fn follow(given: &Given) -> Result<u64, Failure> {

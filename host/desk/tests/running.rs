@@ -309,9 +309,6 @@ fn a_full_disk_is_status_1() {
     desk.image("p.bin", &[ECALL]);
     let outcome = desk.run("run p.bin --save /dev/full");
     assert_eq!(outcome.status, 1);
-    assert!(
-        outcome.err.contains("could not be written"),
-        "{}",
-        outcome.err
-    );
+    let line = "desk: the output could not be written: /dev/full: No space left on device";
+    assert!(outcome.err.starts_with(line), "{}", outcome.err);
 }

@@ -64,9 +64,34 @@ fn images() {
         ("run empty.bin", "empty.bin: the image is empty; give a file with at least one instruction"),
         ("run big.bin --memory 4096", "big.bin: the image has 5000 bytes and memory 4096; try --memory 8192"),
         ("run huge.bin", "huge.bin: the image has more than 1048576 bytes (1M), the largest memory"),
-        ("run ok.bin --trace-to no/trace", "--trace-to: no/trace cannot be written (No such file or directory (os error 2)); check its folder and rights"),
-        ("run ok.bin --save no/mem", "--save: no/mem cannot be written (No such file or directory (os error 2)); check its folder and rights"),
+        ("run ok.bin --trace-to no/trace", "--trace-to: 'no/trace' cannot be written (No such file or directory (os error 2)); give a file in a folder where you may write"),
+        ("run ok.bin --save no/mem", "--save: 'no/mem' cannot be written (No such file or directory (os error 2)); give a file in a folder where you may write"),
     ]);
+}
+
+/// Wrong input loses nothing: what is read is never written to, and no empty file stays behind.
+#[test]
+#[rustfmt::skip]
+fn outputs() {
+    let prepare = |desk: &Desk| std::fs::hard_link(desk.folder.join("ok.bin"), desk.folder.join("same.bin")).unwrap();
+    refused("outputs", prepare, &[
+        ("run ok.bin --save ok.bin", "--save: 'ok.bin' is the image, which would be lost; give another file"),
+        ("run ok.bin --save same.bin", "--save: 'same.bin' is the image, which would be lost; give another file"),
+        ("run ok.bin --trace-to ./ok.bin", "--trace-to: './ok.bin' is the image, which would be lost; give another file"),
+        ("run ok.bin --map user.map --save user.map", "--save: 'user.map' is the page map, which would be lost; give another file"),
+        ("run ok.bin --trace-to new --save new", "--save: 'new' is the trace, which would be lost; give another file"),
+        ("run ok.bin --trace-to new --save no/mem", "--save: 'no/mem' cannot be written (No such file or directory (os error 2)); give a file in a folder where you may write"),
+        ("run ok.bin --save new --pc 2", "--pc: 0x2 is not a multiple of 4; try 0x0 or 0x4 (the hart's refusal 1)"),
+        ("run ok.bin --save user.map --pc 2", "--pc: 0x2 is not a multiple of 4; try 0x0 or 0x4 (the hart's refusal 1)"),
+    ]);
+    let desk = Desk::new("outputs-kept");
+    desk.image("ok.bin", &[ECALL]);
+    desk.run("run ok.bin --trace-to ok.bin");
+    desk.run("run ok.bin --map user.map --save user.map");
+    desk.run("run ok.bin --trace-to new --pc 2");
+    assert_eq!(std::fs::read(desk.folder.join("ok.bin")).unwrap(), ECALL.to_le_bytes());
+    assert_eq!(std::fs::read_to_string(desk.folder.join("user.map")).unwrap(), common::MAP);
+    assert!(!desk.folder.join("new").exists());
 }
 
 #[test]
