@@ -16,6 +16,7 @@ pub enum Failure {
 impl Failure {
     /// A line about wrong input that begins with its place.
     pub fn at(place: &str, wrong: impl AsRef<str>) -> Failure {
+        let place = if place.is_empty() { "''" } else { place };
         Failure::Input(format!("{place}: {}", wrong.as_ref()))
     }
 
@@ -27,12 +28,20 @@ impl Failure {
         }
     }
 
-    /// The line for stderr, if there is one.
-    pub fn line(&self) -> Option<&str> {
+    /// The line for stderr, if there is one. What the user gave may hold line ends and worse: these are shown as escapes.
+    pub fn line(&self) -> Option<String> {
         match self {
-            Failure::Input(line) | Failure::Tool(line) => Some(line),
+            Failure::Input(line) | Failure::Tool(line) => Some(line.chars().map(shown).collect()),
             Failure::Closed => None,
         }
+    }
+}
+
+/// A character as it can stand in a line.
+fn shown(character: char) -> String {
+    match character {
+        '\'' | '"' | '\\' => character.into(),
+        _ => character.escape_debug().collect(),
     }
 }
 
@@ -43,5 +52,21 @@ impl From<io::Error> for Failure {
             io::ErrorKind::BrokenPipe => Failure::Closed,
             _ => Failure::Tool(format!("the output could not be written: {error}")),
         }
+    }
+}
+
+#[cfg(test)]
+mod tests {
+    use super::*;
+
+    #[test]
+    fn a_line_is_one_line_and_names_its_place() {
+        let line = |place| Failure::at(place, "it isn't \"so\"").line().unwrap();
+        assert_eq!(line("a\\b \u{e4}"), "a\\b \u{e4}: it isn't \"so\"");
+        assert_eq!(
+            line("a\nb\u{1b}\u{feff}\0"),
+            "a\\nb\\u{1b}\\u{feff}\\0: it isn't \"so\""
+        );
+        assert_eq!(line(""), "'': it isn't \"so\"");
     }
 }

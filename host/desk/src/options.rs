@@ -141,6 +141,9 @@ fn unknown(command: &str, specs: &[Spec], name: &str) -> Failure {
 
 /// The name that is nearest to what was written, if one is near enough to be meant.
 pub fn nearest<'a>(written: &str, names: impl Iterator<Item = &'a str>) -> Option<&'a str> {
+    if written.trim_start_matches('-').is_empty() {
+        return None;
+    }
     let far = |name: &&str| distance(written, name);
     let near = names.min_by_key(far)?;
     (distance(written, near) <= 1 + written.len() / 4).then_some(near)
@@ -178,5 +181,6 @@ mod tests {
         let names = ["--memory", "--map", "--mode"];
         assert_eq!(nearest("--memroy", names.into_iter()), Some("--memory"));
         assert_eq!(nearest("--banana", names.into_iter()), None);
+        assert_eq!(nearest("--", ["--x"].into_iter()), None);
     }
 }
