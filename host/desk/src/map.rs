@@ -13,7 +13,9 @@ pub const MOST: usize = 64;
 /// Bits 0 to 7 of a leaf, by the letters that stand for them.
 const LETTERS: [char; 8] = ['v', 'r', 'w', 'x', 'u', 'g', 'a', 'd'];
 const V: u64 = 1 << 0;
+const R: u64 = 1 << 1;
 const W: u64 = 1 << 2;
+const X: u64 = 1 << 3;
 const A: u64 = 1 << 6;
 const D: u64 = 1 << 7;
 const PAGE: u64 = 4096;
@@ -167,6 +169,7 @@ fn flags<'a>(words: impl Iterator<Item = &'a str> + Clone) -> Result<u64, String
     if words.clone().next().is_none() {
         return Err("the flags are missing; write for instance rw u, r-x u or shadow u".into());
     }
+    let shadow = words.clone().any(|word| word == "shadow");
     let (mut set, mut cleared) = (V | A | D, 0);
     for word in words {
         match word.strip_prefix('!') {
@@ -174,6 +177,9 @@ fn flags<'a>(words: impl Iterator<Item = &'a str> + Clone) -> Result<u64, String
             None if word == "shadow" => set |= W,
             _ => set |= bits(word, word)?,
         }
+    }
+    if shadow && set & (R | W | X) != W {
+        return Err("'shadow' is W alone; leave out r and x, or 'shadow'".into());
     }
     Ok(set & !cleared)
 }

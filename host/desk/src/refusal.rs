@@ -71,17 +71,17 @@ fn field(index: usize, value: u64) -> Option<String> {
             Some(format!("{value} is no mode; try 0, 1 or 3"))
         }
         word::ELP if value > 1 => Some(format!("{value} is neither 0 nor 1")),
-        word::STVEC | word::SEPC | word::MTVEC | word::MEPC => within(value, !3),
+        word::STVEC | word::SEPC | word::MTVEC | word::MEPC => within(value, !3, value & !3),
         word::SATP if value & !(0xf << 60) == 0 && ![0, 8].contains(&(value >> 60)) => {
             Some(format!(
                 "{value:#x} has MODE {}; try MODE 0 (Bare, 0x0) or 8 (Sv39, 0x8000000000000000)",
                 value >> 60
             ))
         }
-        word::SATP => within(value, 8 << 60),
-        word::SENVCFG | word::MENVCFG => within(value, ENVCFG).or_else(|| pmm(value)),
-        word::MSECCFG => within(value, MSECCFG).or_else(|| pmm(value)),
-        word::MEDELEG => within(value, MEDELEG),
+        word::SATP => within(value, 8 << 60, value & 8 << 60),
+        word::SENVCFG | word::MENVCFG => masking(value, ENVCFG),
+        word::MSECCFG => masking(value, MSECCFG),
+        word::MEDELEG => within(value, MEDELEG, value & MEDELEG),
         word::MSTATUS => mstatus(value),
         _ => None,
     }
@@ -94,42 +94,45 @@ fn multiple(value: u64, of: u64) -> Option<String> {
     (value != below).then(line)
 }
 
-/// The bits outside `mask` are always 0.
-fn within(value: u64, mask: u64) -> Option<String> {
+/// The bits outside `mask` are always 0; `right` is a word that the hart takes.
+fn within(value: u64, mask: u64, right: u64) -> Option<String> {
     let line = || {
         format!(
-            "{value:#x} sets bits that are always 0 ({:#x}); try {:#x}",
-            value & !mask,
-            value & mask
+            "{value:#x} sets bits that are always 0 ({:#x}); try {right:#x}",
+            value & !mask
         )
     };
     (value & !mask != 0).then(line)
 }
 
-fn pmm(value: u64) -> Option<String> {
-    let line = || {
-        format!(
-            "{value:#x} has PMM (bits 33:32) 1; try 0, 2 or 3 there: {:#x}",
-            value & !PMM
-        )
-    };
-    (value & PMM == 1 << 32).then(line)
+/// The bits of `mask`, and in `field` 0 instead of the value that no write leaves there.
+fn taken(value: u64, mask: u64, field: u64, never: u64) -> u64 {
+    match value & field == never {
+        true => value & mask & !field,
+        false => value & mask,
+    }
+}
+
+/// A CSR with PMM.
+fn masking(value: u64, mask: u64) -> Option<String> {
+    let right = taken(value, mask, PMM, 1 << 32);
+    let line = || format!("{value:#x} has PMM (bits 33:32) 1; try 0, 2 or 3 there: {right:#x}");
+    within(value, mask, right).or_else(|| (value & PMM == 1 << 32).then(line))
 }
 
 fn mstatus(value: u64) -> Option<String> {
+    let right = taken(value, MSTATUS, MPP, 2 << 11) | MSTATUS_CLEAR;
     if value & XL_FIELDS != MSTATUS_CLEAR {
         return Some(format!(
-            "{value:#x} has UXL and SXL other than 2; try {:#x}",
-            value & !XL_FIELDS | MSTATUS_CLEAR
+            "{value:#x} has UXL and SXL other than 2; try {right:#x}"
         ));
     }
     if value & MPP == 2 << 11 {
         return Some(format!(
-            "{value:#x} has MPP (bits 12:11) 2, which is no mode; try {:#x}",
-            value & !MPP
+            "{value:#x} has MPP (bits 12:11) 2, which is no mode; try {right:#x}"
         ));
     }
-    within(value, MSTATUS | MSTATUS_CLEAR)
+    within(value, MSTATUS | MSTATUS_CLEAR, right)
 }
 
 /// The option of `desk run` that gives a word of `rest`.
@@ -210,6 +213,25 @@ mod tests {
                 odd.rest[index] ^= 1 << bit;
                 let refused = sporhulma::run(&mut odd.clone(), &mut mem, &[], 0).refusal == 1;
                 assert_eq!(refused, !hart(&odd).is_empty(), "{name} bit {bit}");
+            }
+        }
+    }
+
+    /// What the desk says one should try is taken, also where more than one thing is wrong.
+    #[test]
+    fn what_would_be_right_is_right() {
+        let mut mem = vec![0; 4096];
+        for index in (0..REST.len()).filter(|&index| ![word::MODE, word::ELP].contains(&index)) {
+            for odd in [u64::MAX, !(2 << 32), !(1 << 11), 0x5555 << 48 | 0x1001] {
+                let Some(line) = field(index, odd) else {
+                    continue;
+                };
+                let last = line.rsplit("0x").next().unwrap();
+                let digits = last.trim_end_matches(|c: char| !c.is_ascii_hexdigit());
+                let mut hart = Hart::fresh();
+                hart.rest[index] = u64::from_str_radix(digits, 16).unwrap();
+                let refusal = sporhulma::run(&mut hart, &mut mem, &[], 0).refusal;
+                assert_eq!(refusal, 0, "{}: {line}", REST[index]);
             }
         }
     }

@@ -170,6 +170,7 @@ fn map_lines() {
         ("0x10000 -> 0x80001000 rwq", "'rwq' is no flag; use letters of v r w x u g a d, !v !a !d, or shadow"),
         ("0x10000 -> 0x80001000 r !", "'!' is no flag; use letters of v r w x u g a d, !v !a !d, or shadow"),
         ("0x10000 -> 0x80001000 shadows", "'shadows' is no flag; use letters of v r w x u g a d, !v !a !d, or shadow"),
+        ("0x10000 -> 0x80001000 shadow r u", "'shadow' is W alone; leave out r and x, or 'shadow'"),
         ("page -> 0x80001000 rw", "'page' is not a number; write it as 4096, 0x1000 or 0b1000"),
         ("0x10010 -> 0x80001000 rw", "virtual address 0x10010 is not a multiple of 4096; try 0x10000"),
         ("0x10000 -> 0x80001004 rw", "physical address 0x80001004 is not a multiple of 4096; try 0x80001000"),
