@@ -1,8 +1,9 @@
 /* Sporhulma: one 64-bit RISC-V hart (M, S, U) with landing pads, shadow stack and pointer masking, proved.
  *
- * Link target/staticlib/libsporhulma.a, which tools/library builds. What each call does with anything that is handed in is proved;
- * docs/PROMISES.md states it. Trusted is that the caller's pointers are what the types say: arrays of the given length, which do
- * not overlap, and memory of mem_len bytes and a map of map_len words (a pointer that is not null, also where the length is 0).
+ * Link target/staticlib/libsporhulma.a, and for sporhulma_family libfamily.a beside it; tools/library builds both. What each call
+ * does with anything that is handed in is proved; docs/PROMISES.md states it. Trusted is that the caller's pointers are what the
+ * types say: arrays of the given length, which do not overlap, and memory of mem_len bytes and a map of map_len words (a pointer
+ * that is not null, also where the length is 0).
  */
 #ifndef SPORHULMA_H
 #define SPORHULMA_H
@@ -63,8 +64,8 @@ uint64_t sporhulma_step_word(uint64_t x[32], uint64_t rest[20], uint8_t *mem, si
 uint64_t sporhulma_run(uint64_t x[32], uint64_t rest[20], uint8_t *mem, size_t mem_len, const uint64_t *map, size_t map_len,
                        uint64_t budget, uint64_t answer[3]);
 
-/* The decoder's verdict on a word: 0 illegal, 1 LUI, 2 AUIPC, 3 JAL, 4 JALR, 5 branch, 6 load, 7 store, 8 OP-IMM, 9 OP-IMM-32,
- * 10 OP, 11 OP-32, 12 FENCE, 13 ECALL, 14 EBREAK, 15 SRET, 16 MRET, 17 CSR instruction, 18 read of ssp, 19 shadow push,
+/* The decoder's verdict on a word (in libfamily.a): 0 illegal, 1 LUI, 2 AUIPC, 3 JAL, 4 JALR, 5 branch, 6 load, 7 store, 8 OP-IMM,
+ * 9 OP-IMM-32, 10 OP, 11 OP-32, 12 FENCE, 13 ECALL, 14 EBREAK, 15 SRET, 16 MRET, 17 CSR instruction, 18 read of ssp, 19 shadow push,
  * 20 shadow pop-check, 21 shadow swap, 22 another MOP.R word, 23 another MOP.RR word. */
 uint64_t sporhulma_family(uint32_t word);
 
