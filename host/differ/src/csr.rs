@@ -1,9 +1,9 @@
 //! CSR instructions: every CSR of document 01, its neighbours and any address, with values that touch each field.
 
-use crate::encode::{i, SYSTEM};
 use crate::maker::Maker;
 use crate::random::Random;
 use crate::state::{DELEGATED, LPE, MLPE, MPP, PMM, SSE, STATUS};
+use formats::{i, SYSTEM};
 use sporhulma::word::*;
 
 /// Every CSR: its address, and its word in the hart.

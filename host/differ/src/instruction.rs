@@ -1,10 +1,10 @@
 //! Instruction words with a state that suits them: each maker sets the registers it needs and gives the word.
 
 use crate::case::PAGE;
-use crate::encode::*;
 use crate::maker::Maker;
 use crate::world::Role;
 use crate::{csr, shadow};
+use formats::*;
 
 type Make = fn(&mut Maker) -> u32;
 

@@ -7,7 +7,6 @@
 pub mod case;
 pub mod csr;
 pub mod decoder;
-pub mod encode;
 pub mod instruction;
 pub mod maker;
 pub mod mix;

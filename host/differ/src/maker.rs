@@ -23,7 +23,7 @@ impl Maker<'_> {
         let word = self.random.word();
         match word & 3 {
             0 => self.random.pick(&ends),
-            _ => crate::encode::signed12(word >> 32),
+            _ => formats::signed12(word >> 32),
         }
     }
 

@@ -1,10 +1,10 @@
 //! The refusal table's rules, each broken alone and next to it the nearest value that is accepted.
 
 use crate::case::{Call, Case};
-use crate::encode::ECALL;
 use crate::random::Random;
 use crate::state::{DELEGATED, LPE, MLPE, PMM, SSE, STATUS, SV39, XLENS};
 use crate::world::{lengthen, ENTRIES, NUMBERS};
+use formats::ECALL;
 use sporhulma::word::*;
 use sporhulma::MOST_STEPS;
 

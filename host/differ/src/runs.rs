@@ -1,7 +1,6 @@
 //! Runs: program `number` of a seed with its state, made without the programs before it.
 
 use crate::case::{Call, Case, PAGE};
-use crate::encode::{MRET, SRET};
 use crate::instruction::instruction;
 use crate::maker::Maker;
 use crate::program::{handler, program};
@@ -9,6 +8,7 @@ use crate::random::Random;
 use crate::refuse;
 use crate::state::{keepers, registers, settings, View, LPE, SSE, SV39};
 use crate::world::{lengthen, write_map, Role, Wish, World, ENTRIES};
+use formats::{MRET, SRET};
 use sporhulma::word::*;
 
 /// Keeps the streams of runs apart from those of steps.

@@ -1,8 +1,8 @@
 //! The words of Zicfiss and Zimop, with ssp or the address where they do something.
 
-use crate::encode::{self, mop_r as mop_r_word, mop_rr as mop_rr_word, r, AMO};
 use crate::maker::Maker;
 use crate::world::Role;
+use formats::{mop_r as mop_r_word, mop_rr as mop_rr_word, r, AMO};
 use sporhulma::word::SSP;
 
 /// A page for a shadow access: mostly a shadow page.
@@ -26,7 +26,7 @@ fn point(maker: &mut Maker, beyond: u64) {
 
 pub fn push(maker: &mut Maker) -> u32 {
     point(maker, 8);
-    encode::push(maker.random.pick(&[1, 5]))
+    formats::push(maker.random.pick(&[1, 5]))
 }
 
 /// A pop-check; the word at ssp is mostly the register's, or one bit away from it.
@@ -42,7 +42,7 @@ pub fn pop_check(maker: &mut Maker) -> u32 {
     let low = maker.case.hart.rest[SSP] & 0xFFF;
     let place = maker.world.offset(Role::Shadow, low);
     maker.case.poke(place, &stored.to_le_bytes());
-    encode::pop_check(register)
+    formats::pop_check(register)
 }
 
 pub fn read(maker: &mut Maker) -> u32 {

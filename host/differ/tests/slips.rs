@@ -3,10 +3,10 @@
 //! The slips are planted where the word is handed in, so that a wrapper knows it; the masked fetch where it is fetched.
 
 use differ::case::{Call, BASE};
-use differ::encode::{JALR, STORE};
 use differ::simulator::{Second, Simulator};
 use differ::soak::{Failure, Soak};
 use differ::state::{View, SV39};
+use formats::{JALR, STORE};
 use sporhulma::word::*;
 use sporhulma::{Answer, Hart};
 

@@ -1,52 +1,25 @@
-//! Words from fields, by the unprivileged manual's formats: what the generator of programs is
-//! written with.
+//! Words from fields: what the generator of programs is written with, with signed immediates.
 
-pub const LOAD: u32 = 0x03;
-pub const MISC_MEM: u32 = 0x0f;
-pub const OP_IMM: u32 = 0x13;
-pub const AUIPC: u32 = 0x17;
-pub const OP_IMM_32: u32 = 0x1b;
-pub const OP: u32 = 0x33;
-pub const LUI: u32 = 0x37;
-pub const OP_32: u32 = 0x3b;
-pub const JALR: u32 = 0x67;
-pub const SYSTEM: u32 = 0x73;
-
-pub const ECALL: u32 = 0x0000_0073;
-pub const EBREAK: u32 = 0x0010_0073;
-pub const SRET: u32 = 0x1020_0073;
-pub const MRET: u32 = 0x3020_0073;
-
-pub fn r_type(opcode: u32, funct3: u32, funct7: u32, rd: u32, rs1: u32, rs2: u32) -> u32 {
-    funct7 << 25 | rs2 << 20 | rs1 << 15 | funct3 << 12 | rd << 7 | opcode
-}
+pub use formats::{
+    r as r_type, u as u_type, AUIPC, EBREAK, ECALL, JALR, LOAD, LUI, MISC_MEM, MRET, OP, OP_32,
+    OP_IMM, OP_IMM_32, SRET, SYSTEM,
+};
 
 /// Format I; the immediate's low 12 bits count.
 pub fn i_type(opcode: u32, funct3: u32, rd: u32, rs1: u32, immediate: i32) -> u32 {
-    (immediate as u32) << 20 | rs1 << 15 | funct3 << 12 | rd << 7 | opcode
+    formats::i(opcode, funct3, rd, rs1, immediate as u64)
 }
 
 pub fn store(funct3: u32, rs2: u32, rs1: u32, offset: i32) -> u32 {
-    let offset = offset as u32;
-    (offset >> 5 & 0x7f) << 25 | rs2 << 20 | rs1 << 15 | funct3 << 12 | (offset & 0x1f) << 7 | 0x23
+    formats::s(formats::STORE, funct3, rs1, rs2, offset as u64)
 }
 
 pub fn branch(funct3: u32, rs1: u32, rs2: u32, offset: i32) -> u32 {
-    let offset = offset as u32;
-    let high = (offset >> 12 & 1) << 31 | (offset >> 5 & 0x3f) << 25;
-    let low = (offset >> 1 & 0xf) << 8 | (offset >> 11 & 1) << 7;
-    high | rs2 << 20 | rs1 << 15 | funct3 << 12 | low | 0x63
-}
-
-/// Format U; the immediate's low 20 bits count, and become bits 31:12.
-pub fn u_type(opcode: u32, rd: u32, immediate: u32) -> u32 {
-    immediate << 12 | rd << 7 | opcode
+    formats::b(funct3, rs1, rs2, offset as u64)
 }
 
 pub fn jal(rd: u32, offset: i32) -> u32 {
-    let offset = offset as u32;
-    let high = (offset >> 20 & 1) << 31 | (offset >> 1 & 0x3ff) << 21 | (offset >> 11 & 1) << 20;
-    high | (offset >> 12 & 0xff) << 12 | rd << 7 | 0x6f
+    formats::j(rd, offset as u64)
 }
 
 pub fn addi(rd: u32, rs1: u32, immediate: i32) -> u32 {
@@ -55,7 +28,7 @@ pub fn addi(rd: u32, rs1: u32, immediate: i32) -> u32 {
 
 /// A CSR instruction; `source` is rs1, or the immediate where funct3 is 5 to 7.
 pub fn csr(funct3: u32, rd: u32, csr: u32, source: u32) -> u32 {
-    csr << 20 | source << 15 | funct3 << 12 | rd << 7 | SYSTEM
+    formats::i(SYSTEM, funct3, rd, source, csr.into())
 }
 
 /// csrr rd,csr

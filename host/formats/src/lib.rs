@@ -1,4 +1,5 @@
-//! Words of the base formats from their fields, as the unprivileged manual draws them.
+//! Words of the base formats from their fields, as the unprivileged manual draws them: what differ, outside and bench make
+//! their programs with. The second simulator does not use it.
 
 pub const LOAD: u32 = 0x03;
 pub const MISC_MEM: u32 = 0x0F;
