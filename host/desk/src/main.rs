@@ -6,7 +6,6 @@ mod drive;
 mod dump;
 mod explain;
 mod failure;
-mod fields;
 mod help;
 mod image;
 mod json;

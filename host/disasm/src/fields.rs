@@ -37,6 +37,11 @@ impl Word {
         self.bits(24, 20)
     }
 
+    /// The CSR's address, of a CSR instruction.
+    pub fn csr(self) -> u16 {
+        self.bits(31, 20) as u16
+    }
+
     pub fn rd_name(self) -> &'static str {
         register(self.rd() as usize)
     }
@@ -74,5 +79,22 @@ impl Word {
     pub fn imm_j(self) -> i32 {
         let sign = self.0 as i32 >> 31 << 20;
         sign | (self.bits(19, 12) << 12 | self.bits(20, 20) << 11 | self.bits(30, 21) << 1) as i32
+    }
+}
+
+#[cfg(test)]
+mod tests {
+    use super::*;
+
+    /// Words as the GNU assembler gives them.
+    #[test]
+    fn immediates() {
+        assert_eq!(Word(0xff81_3503).imm_i(), -8); // ld a0,-8(sp)
+        assert_eq!(Word(0xfea1_3c23).imm_s(), -8); // sd a0,-8(sp)
+        assert_eq!(Word(0x00a1_3423).imm_s(), 8); // sd a0,8(sp)
+        assert_eq!(Word(0xfe00_0ee3).imm_b(), -4); // beqz zero,.-4
+        assert_eq!(Word(0x0000_0463).imm_b(), 8); // beqz zero,.+8
+        assert_eq!(Word(0xffdf_f06f).imm_j(), -4); // j .-4
+        assert_eq!(Word(0x0020_006f).imm_j(), 2); // j .+2
     }
 }

@@ -24,8 +24,7 @@ mod fields;
 mod names;
 mod system;
 
-use fields::Word;
-
+pub use fields::Word;
 pub use names::{csr_name, register};
 
 /// The text of `word`, standing at `pc` (only jumps and branches depend on `pc`).

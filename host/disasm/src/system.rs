@@ -28,8 +28,8 @@ fn exact(word: u32) -> Option<&'static str> {
 const UNIMP: u32 = 0xc000_1073;
 
 fn csr(word: Word) -> String {
-    let address = word.bits(31, 20);
-    let csr = csr_name(address as u16).map_or_else(|| format!("{address:#x}"), str::to_string);
+    let address = word.csr();
+    let csr = csr_name(address).map_or_else(|| format!("{address:#x}"), str::to_string);
     let operation = ["w", "s", "c"][(word.funct3() & 3) - 1];
     let (immediate, source) = match word.funct3() & 4 {
         0 => ("", word.rs1_name().to_string()),

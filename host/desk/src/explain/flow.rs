@@ -2,12 +2,11 @@
 
 use super::{family, Verdict};
 use crate::bits::{LPE, MLPE, SSE};
-use crate::fields::Fields;
 use crate::json::Json;
 use crate::names::{mode_name, M, S, U};
 use crate::place::Path;
 use crate::state::State;
-use disasm::register;
+use disasm::{register, Word};
 use sporhulma::{word, Hart};
 
 /// The active shadow enable of the current mode.
@@ -105,12 +104,14 @@ pub fn mismatch(before: &State, path: &Path, physical: u64, source: usize) -> Op
 
 /// The trap of a jump or a taken branch to an address that is no multiple of 4.
 pub fn target(before: &State, instruction: u32, family: u64) -> Option<Verdict> {
-    let fields = Fields(instruction);
+    let fields = Word(instruction);
     let pc = before.pc();
     let target = match family {
-        family::JAL => pc.wrapping_add(fields.j_immediate()),
-        family::JALR => before.hart.x[fields.rs1()].wrapping_add(fields.i_immediate()) & !1,
-        _ if taken(&before.hart, fields) => pc.wrapping_add(fields.b_immediate()),
+        family::JAL => pc.wrapping_add(fields.imm_j() as u64),
+        family::JALR => {
+            before.hart.x[fields.rs1() as usize].wrapping_add(fields.imm_i() as u64) & !1
+        }
+        _ if taken(&before.hart, fields) => pc.wrapping_add(fields.imm_b() as u64),
         _ => return None,
     };
     let why = format!("rule 3: the jump's target {target:#x} is not a multiple of 4");
@@ -125,8 +126,8 @@ pub fn target(before: &State, instruction: u32, family: u64) -> Option<Verdict> 
 }
 
 /// Whether a branch's condition holds.
-fn taken(hart: &Hart, fields: Fields) -> bool {
-    let (one, other) = (hart.x[fields.rs1()], hart.x[fields.rs2()]);
+fn taken(hart: &Hart, fields: Word) -> bool {
+    let (one, other) = (hart.x[fields.rs1() as usize], hart.x[fields.rs2() as usize]);
     let holds = match fields.funct3() & 6 {
         0 => one == other,
         4 => (one as i64) < other as i64,

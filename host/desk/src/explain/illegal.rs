@@ -1,9 +1,9 @@
 //! Why an instruction is illegal.
 
 use super::{family, flow, Verdict};
-use crate::fields::Fields;
 use crate::json::Json;
 use crate::names::{mode_name, M, U};
+use disasm::Word;
 use sporhulma::{word, Hart};
 
 /// The address of the CSR ssp, which has a rule of its own.
@@ -34,7 +34,7 @@ pub fn reason(hart: &Hart, instruction: u32, family: u64) -> Option<String> {
         family::SRET if mode == U => Some("SRET needs mode S or M, and the hart is in U".into()),
         family::SWAP => flow::missing_enable(hart)
             .map(|enable| format!("a shadow swap in {in_mode} needs {enable}, which is 0")),
-        family::CSR => csr(hart, Fields(instruction).csr()),
+        family::CSR => csr(hart, Word(instruction).csr()),
         _ => None,
     }
 }

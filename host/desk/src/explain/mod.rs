@@ -10,12 +10,12 @@ mod fault;
 mod flow;
 mod illegal;
 
-use crate::fields::Fields;
 use crate::json::Json;
 use crate::map::PageMap;
 use crate::names::{mode_name, M};
 use crate::place::{Access, Kind};
 use crate::state::State;
+use disasm::Word;
 use sporhulma::{word, Hart, BASE};
 use std::ops::Range;
 
@@ -157,14 +157,14 @@ fn expected(before: &State, map: &PageMap) -> Option<Verdict> {
 
 /// The access that a memory instruction makes, if the word is one and makes one.
 fn access(before: &State, word: u32) -> Option<Access> {
-    let fields = Fields(word);
+    let fields = Word(word);
     let hart = &before.hart;
     let ssp = hart.rest[word::SSP];
-    let base = hart.x[fields.rs1()];
+    let base = hart.x[fields.rs1() as usize];
     let size = 1 << (fields.funct3() & 3);
     let (kind, width, address) = match sporhulma::family(word) {
-        family::LOAD => (Kind::Load, size, base.wrapping_add(fields.i_immediate())),
-        family::STORE => (Kind::Store, size, base.wrapping_add(fields.s_immediate())),
+        family::LOAD => (Kind::Load, size, base.wrapping_add(fields.imm_i() as u64)),
+        family::STORE => (Kind::Store, size, base.wrapping_add(fields.imm_s() as u64)),
         family::PUSH if flow::shadow_stack_on(hart) => (Kind::Push, 8, ssp.wrapping_sub(8)),
         family::POP if flow::shadow_stack_on(hart) => (Kind::Pop, 8, ssp),
         family::SWAP => (Kind::Swap, size, base),
@@ -182,7 +182,9 @@ fn access_trap(before: &State, map: &PageMap, word: u32) -> Option<Verdict> {
     let access = access(before, word)?;
     let path = before.path(map, access);
     match (access.kind, &path.end) {
-        (Kind::Pop, Ok(physical)) => flow::mismatch(before, &path, *physical, Fields(word).rs1()),
+        (Kind::Pop, Ok(physical)) => {
+            flow::mismatch(before, &path, *physical, Word(word).rs1() as usize)
+        }
         _ => fault::verdict(&path),
     }
 }
