@@ -323,4 +323,61 @@ mod tests {
         assert_eq!(masked(0x5400_0000_8000_1000, 7, true), 0x8000_1000);
         assert_eq!(masked(address, 0, true), address);
     }
+
+    const CODE: u64 = 0x1000;
+
+    /// The rule and the cause where `kind` meets a page with these flags, by a hart in `mode` with the shadow stack on.
+    fn met(mode: u64, kind: Kind, flags: &str, address: u64) -> (u8, u64) {
+        let mut hart = Hart::fresh();
+        hart.rest[word::MODE] = mode;
+        hart.rest[word::SATP] = 8 << 60;
+        hart.rest[word::MENVCFG] = SSE;
+        hart.rest[word::SENVCFG] = SSE;
+        let map = PageMap::parse("m", &format!("{CODE:#x} -> {flags}")).unwrap();
+        let access = Access {
+            kind,
+            width: 4,
+            address,
+        };
+        let end = follow(&hart, 4096, &map, access).end;
+        end.map_or_else(|refused| (refused.rule, refused.cause), |_| (0, 0))
+    }
+
+    /// Each refusal of the nine rules under its own number, and the causes that document 01 gives.
+    #[test]
+    #[rustfmt::skip]
+    fn each_rule_has_its_number() {
+        use Kind::*;
+        for (mode, kind, flags, address, rule, cause) in [
+            (U, Load, "0x80000000 rw u", CODE + 2, 3, 4),
+            (U, Store, "0x80000000 rw u", CODE + 2, 3, 6),
+            (U, Swap, "0x80000000 shadow u", CODE + 2, 3, 7),
+            (M, Swap, "0x80000000 shadow u", CODE, 4, 7),
+            (U, Load, "0x80000000 rw u", CODE | 1 << 39, 5, 13),
+            (U, Fetch, "0x80000000 rx u", CODE + 4096, 5, 12),
+            (U, Store, "0x80000000 rw u !v", CODE, 5, 15),
+            (U, Load, "0x80000000 u", CODE, 5, 13),
+            (U, Load, "leaf 0x00400000200000df", CODE, 5, 13),
+            (U, Load, "0x80000000 wx u", CODE, 5, 13),
+            (U, Load, "0x80000000 rw", CODE, 6, 13),
+            (S, Fetch, "0x80000000 rx u", CODE, 6, 12),
+            (S, Push, "0x80000000 shadow u", CODE, 6, 15),
+            (U, Pop, "0x80000000 r u", CODE, 7, 15),
+            (U, Push, "0x80000000 rw u", CODE, 7, 7),
+            (U, Store, "0x80000000 shadow u", CODE, 7, 7),
+            (U, Fetch, "0x80000000 shadow u", CODE, 7, 1),
+            (U, Fetch, "0x80000000 rw u", CODE, 8, 12),
+            (U, Load, "0x80000000 x u", CODE, 8, 13),
+            (U, Store, "0x80000000 r u", CODE, 8, 15),
+            (U, Load, "0x80000000 rw u !a", CODE, 8, 13),
+            (U, Push, "0x80000000 shadow u !d", CODE, 8, 15),
+            (U, Fetch, "0x80001000 rx u", CODE, 9, 1),
+            (U, Load, "0x80001000 rw u", CODE, 9, 5),
+            (U, Pop, "0x80001000 shadow u", CODE, 9, 7),
+            (U, Pop, "0x80000000 shadow u !d", CODE, 0, 0),
+            (U, Load, "0x80000000 shadow u", CODE, 0, 0),
+        ] {
+            assert_eq!(met(mode, kind, flags, address), (rule, cause), "{kind:?} in mode {mode}: {flags}");
+        }
+    }
 }

@@ -312,3 +312,31 @@ fn a_full_disk_is_status_1() {
     let line = "desk: the output could not be written: /dev/full: No space left on device";
     assert!(outcome.err.starts_with(line), "{}", outcome.err);
 }
+
+/// A loop over a trap that leaves the hart as it was but memory not: it goes on, and is not stuck.
+#[test]
+fn a_trap_loop_that_changes_memory_is_not_stuck() {
+    let desk = Desk::new("trap-loop");
+    let count = [
+        0x0005_a503, // lw a0,0(a1)
+        0x0015_0513, // addi a0,a0,1
+        0x00a5_a023, // sw a0,0(a1)
+        0x0000_0513, // li a0,0
+        ECALL,
+    ];
+    desk.image("p.bin", &count);
+    let outcome = desk.run(
+        "run p.bin --x a1=0x80000100 --csr mtvec=0x80000000 --follow all --steps 50 --dump 0x80000100:4",
+    );
+    assert_eq!(outcome.status, 0, "{}", outcome.out);
+    assert!(
+        outcome.out.contains("Stopped after 50 steps"),
+        "{}",
+        outcome.out
+    );
+    assert!(
+        outcome.out.contains("0x80000100  0a 00 00 00"),
+        "{}",
+        outcome.out
+    );
+}
