@@ -1,17 +1,24 @@
 //! A file written whole or not at all: first beside its place, then moved there.
 
+use crate::Failure;
 use std::fs;
+use std::io::ErrorKind;
 use std::path::{Path, PathBuf};
 
 /// Writes `text` to `path`. On an error nothing new is left, and what stood there is as before.
-pub fn whole(path: &Path, text: &str) -> Result<(), String> {
+pub fn whole(path: &Path, text: &str) -> Result<(), Failure> {
     let failed = |why: String| format!("cannot write {}: {why}", path.display());
-    let (target, part) = places(path).map_err(failed)?;
+    let (target, part) = places(path).map_err(|why| Failure::Place(failed(why)))?;
     let done = fs::write(&part, text).and_then(|()| fs::rename(&part, &target));
     done.map_err(|error| {
         // The error that counts is the first one; the part may not even be there.
         let _ = fs::remove_file(&part);
-        failed(error.to_string())
+        match error.kind() {
+            ErrorKind::PermissionDenied | ErrorKind::ReadOnlyFilesystem => Failure::Place(failed(
+                "you may not write there; give a file in a folder where you may".into(),
+            )),
+            _ => Failure::Own(failed(error.to_string())),
+        }
     })
 }
 

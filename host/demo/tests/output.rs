@@ -2,6 +2,7 @@
 
 use demo::image::place;
 use demo::incident::Incident;
+use demo::Failure;
 use std::fs;
 use std::path::{Path, PathBuf};
 
@@ -30,7 +31,7 @@ impl Drop for Folder {
     }
 }
 
-fn run(svg: &Path) -> Result<String, String> {
+fn run(svg: &Path) -> Result<String, Failure> {
     let mut out = Vec::new();
     demo::run(&mut out, svg).map(|()| String::from_utf8(out).unwrap())
 }
@@ -208,7 +209,10 @@ fn a_place_that_takes_no_picture_is_said_in_one_line() {
     ] {
         assert_eq!(
             run(&svg),
-            Err(format!("cannot write {}: {why}", svg.display()))
+            Err(Failure::Place(format!(
+                "cannot write {}: {why}",
+                svg.display()
+            )))
         );
     }
     assert!(folder.names().is_empty());
@@ -227,5 +231,6 @@ fn a_story_that_cannot_be_written_is_an_error() {
     }
     let folder = Folder::new("closed");
     let wrong = demo::run(&mut Closed, &folder.0.join("torque.svg"));
-    assert_eq!(wrong, Err("cannot write the story: broken pipe".into()));
+    let line = "cannot write the story: broken pipe".into();
+    assert_eq!(wrong, Err(Failure::Own(line)));
 }

@@ -21,7 +21,8 @@ pub fn run(given: &Given, out: &mut dyn Write) -> Result<u8, Failure> {
     let mut said = Vec::new();
     let ended = demo::run(&mut said, svg);
     out.write_all(&said)?;
-    ended
-        .map(|()| 0)
-        .map_err(|wrong| Failure::at("demo", wrong))
+    ended.map(|()| 0).map_err(|failure| match failure {
+        demo::Failure::Place(wrong) => Failure::at("demo", wrong),
+        demo::Failure::Own(wrong) => Failure::Tool(format!("demo: {wrong}")),
+    })
 }
