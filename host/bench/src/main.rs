@@ -1,6 +1,7 @@
 //! `tools/bench`: millions of instructions a second of `sporhulma_run` and of the second simulator, on the same programs in the same
 //! run. Each figure is the best of several turns, which the two take one after the other, so that a busy machine harms both alike.
 
+mod count;
 mod encode;
 mod programs;
 
@@ -9,7 +10,7 @@ use sporhulma::MOST_STEPS;
 use std::process::ExitCode;
 use std::time::Instant;
 
-const USAGE: &str = "usage: tools/bench [MILLIONS] [TURNS]: instructions a turn in millions (1 to 1000, default 20), turns (1 to 100, default 5)";
+const USAGE: &str = "usage: tools/bench [MILLIONS] [TURNS]: instructions a turn in millions (1 to 1000, default 20), turns (1 to 100, default 5); or tools/bench count";
 
 /// Calls `run` until it has taken `steps` instructions in all, and gives millions a second.
 fn speed(steps: u64, mut run: impl FnMut(u64) -> u64) -> f64 {
@@ -49,6 +50,13 @@ fn number(text: Option<&String>, most: u64, default: u64) -> Option<u64> {
 
 fn main() -> ExitCode {
     let words: Vec<String> = std::env::args().skip(1).collect();
+    if words.first().is_some_and(|word| word == "count") {
+        return count::count(&words[1..]);
+    }
+    table(&words)
+}
+
+fn table(words: &[String]) -> ExitCode {
     let given = (
         number(words.first(), 1000, 20),
         number(words.get(1), 100, 5),
@@ -75,4 +83,30 @@ fn main() -> ExitCode {
         );
     }
     ExitCode::SUCCESS
+}
+
+#[cfg(test)]
+mod tests {
+    use super::*;
+
+    /// Both simulators do the same with each program, and only the last one traps: else the table would time something else.
+    #[test]
+    fn the_programs_do_what_they_are_for() {
+        for (row, p) in programs::all().into_iter().enumerate() {
+            let (mut ours, mut memory) = (p.hart, p.memory.clone());
+            let answer = sporhulma::run(&mut ours, &mut memory, &p.map, 10_000);
+            let mut theirs = second::Hart::from_words(&p.hart.x, &p.hart.rest);
+            let mut other = p.memory.clone();
+            let told = second::run(&mut theirs, &mut other, &p.map, 10_000);
+            assert_eq!(
+                (answer.refusal, answer.trapped),
+                (0, row == 4),
+                "{}",
+                p.name
+            );
+            assert_eq!((answer.count, answer.trapped), (told.count, told.trapped));
+            assert_eq!((ours.x, ours.rest), theirs.to_words());
+            assert_eq!(memory, other);
+        }
+    }
 }
