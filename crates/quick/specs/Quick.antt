@@ -1,0 +1,44 @@
+-- What the quick way does with an instruction: it does all that the instruction's effect says, or it leaves everything as it was.
+--
+-- Below, x are the registers, rest the hart's twenty other words, of which the fourth is ssp, m memory; a name with ' is what it
+-- is afterwards. s is what the hart's mode and CSRs say.
+use mathlib.Core.Bool.{Bool, true, false}
+use mathlib.Core.List.{List}
+use mathlib.Core.Path.{_≡_}
+use Prim.Native.Nat.{ℕ}
+use lib.ListN.{set}
+use Rattle.isa.specs.declared.Instruction.{Instruction}
+use Rattle.transfer.specs.Commit.{memoryOf}
+use Rattle.effect.specs.Register.{putOf}
+use Rattle.effect.specs.declared.Setting.{Setting}
+use Rattle.effect.specs.declared.Effect.{Effect}
+use Rattle.effect.specs.declared.Effect.the-variants.{Write, Jump, Pad, Store, Push, Pop, Swap, Whole, Trap}
+use Rattle.execute.specs.Instruction.{executeOf}
+use Rattle.quick.specs.declared.Tried.{Tried}
+
+-- an effect was applied: pc', registers, words and memory are what it says. It never is a trap, nor a jump to a landing pad, nor
+-- one that changes more than these
+abbrev pub Applied : Effect → (x rest m : List ℕ) → (pc' : ℕ) → (x' rest' m' : List ℕ) → Type 0
+Applied (Write rd v next) x rest m pc' x' rest' m' = (pc' ≡ next) × (x' ≡ putOf rd v x) × (rest' ≡ rest) × (m' ≡ m)
+Applied (Jump rd link next pad) x rest m pc' x' rest' m' =
+    (pad ≡ false) × (pc' ≡ next) × (x' ≡ putOf rd link x) × (rest' ≡ rest) × (m' ≡ m)
+Applied (Pad next) x rest m pc' x' rest' m' = ⊥
+Applied (Store q w v next) x rest m pc' x' rest' m' =
+    (pc' ≡ next) × (x' ≡ x) × (rest' ≡ rest) × (m' ≡ memoryOf (Store q w v next) m)
+Applied (Push q v top next) x rest m pc' x' rest' m' =
+    (pc' ≡ next) × (x' ≡ x) × (rest' ≡ set rest 3 top) × (m' ≡ memoryOf (Push q v top next) m)
+Applied (Pop top next) x rest m pc' x' rest' m' = (pc' ≡ next) × (x' ≡ x) × (rest' ≡ set rest 3 top) × (m' ≡ m)
+Applied (Swap rd old q w v next) x rest m pc' x' rest' m' = ⊥
+Applied (Whole k) x rest m pc' x' rest' m' = ⊥
+Applied (Trap cause tval) x rest m pc' x' rest' m' = ⊥
+
+-- done, or nothing changed
+abbrev pub Does : (done : Bool) → Effect → (x rest m : List ℕ) → (pc' : ℕ) → (x' rest' m' : List ℕ) → Type 0
+Does true e x rest m pc' x' rest' m' = Applied e x rest m pc' x' rest' m'
+Does false e x rest m pc' x' rest' m' = (x' ≡ x) × (rest' ≡ rest) × (m' ≡ m)
+
+-- an instruction that touches the registers and pc alone, whatever the rest of the hart and memory are; pad is the pad enable
+abbrev pub Computes : Instruction → (w : ℕ) → (x : List ℕ) → (pc : ℕ) → (pad : Bool) → Tried → (x' : List ℕ) → Type 0
+Computes i w x pc pad t x' =
+    (ssp : ℕ) (s : Setting) (rest m map : List ℕ) → s .pad ≡ pad
+    → Does (t .done) (executeOf i w x pc ssp s m map) x rest m (t .pc) x' rest m

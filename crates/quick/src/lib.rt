@@ -1,0 +1,20 @@
+// The quick way: the common instructions, done in place on lent registers and memory, one word after the other. Each major opcode's
+// words are read by the decoder's own function for it, and what is done is what `execute` says. An instruction that traps, or that is
+// none of these, is left undone and changes nothing: it goes the whole way, by `execute::plan`.
+//
+// Its own crate, since it is a second way to the same effects: the definitions are those of `execute`, and nothing here adds to them.
+
+ghost use mathlib.Core.Path.{_≡_};
+
+// RV64I that touches the registers and pc alone.
+mod compute;
+// Loads, stores, push and pop-check.
+mod access;
+// The fetch, and the major opcodes.
+pub mod word;
+
+// Whether an instruction was done, and then pc after it.
+pub struct Tried {
+    pub done: bool,
+    pub pc: u64,
+}
