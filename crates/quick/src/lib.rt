@@ -11,7 +11,7 @@ mod compute;
 // Loads, stores, push and pop-check.
 mod access;
 // The fetch, and the major opcodes.
-pub mod word;
+pub mod opcodes;
 
 // Whether an instruction was done, and then pc after it.
 pub struct Tried {
