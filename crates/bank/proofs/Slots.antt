@@ -8,37 +8,17 @@ use lib.ListN.{getD, set}
 use lib.Seq.{getD-set-same, getD-set-other}
 use Rattle.csr.specs.declared.Csr.{Csr}
 use Rattle.csr.specs.declared.Csr.the-variants.{Ssp, Sstatus, Stvec, Senvcfg, Sscratch, Sepc, Scause, Stval, Satp, Mstatus, Medeleg, Mtvec, Menvcfg, Mscratch, Mepc, Mcause, Mtval, Mseccfg}
-use Rattle.bank.specs.Setters.{storedOf, putOf, pointerOf}
+use Rattle.bank.specs.Setters.{storedOf, putOf, pointerOf, csrsOf}
+use Rattle.bank.specs.Words.{slotOf}
 use Rattle.bank.specs.declared.Csrs.{Csrs}
 
--- the words of ssp and the CSRs
+-- ssp and the CSRs as twenty words, of which the first three do not count
 abbrev wordsOf : (ssp : ℕ) → Csrs → List ℕ
 wordsOf ssp c =
-    ssp ∷ c .stvec ∷ c .senvcfg ∷ c .sscratch ∷ c .sepc ∷ c .scause ∷ c .stval ∷ c .satp ∷ c .mstatus
+    0 ∷ 0 ∷ 0 ∷ ssp ∷ c .stvec ∷ c .senvcfg ∷ c .sscratch ∷ c .sepc ∷ c .scause ∷ c .stval ∷ c .satp ∷ c .mstatus
     ∷ c .medeleg ∷ c .mtvec ∷ c .menvcfg ∷ c .mscratch ∷ c .mepc ∷ c .mcause ∷ c .mtval ∷ c .mseccfg ∷ []
 
--- where the word of a CSR stands among them; sstatus has mstatus'
-abbrev pub slotOf : Csr → ℕ
-slotOf Ssp = 0
-slotOf Sstatus = 8
-slotOf Stvec = 1
-slotOf Senvcfg = 2
-slotOf Sscratch = 3
-slotOf Sepc = 4
-slotOf Scause = 5
-slotOf Stval = 6
-slotOf Satp = 7
-slotOf Mstatus = 8
-slotOf Medeleg = 9
-slotOf Mtvec = 10
-slotOf Menvcfg = 11
-slotOf Mscratch = 12
-slotOf Mepc = 13
-slotOf Mcause = 14
-slotOf Mtval = 15
-slotOf Mseccfg = 16
-
-small : (n : Csr) → slotOf n < 17
+small : (n : Csr) → slotOf n < 20
 small Ssp = omega arith
 small Sstatus = omega arith
 small Stvec = omega arith
@@ -110,3 +90,24 @@ other k n w ssp c d =
     ∙ ap (λ (l : List ℕ). getD l (slotOf k) 0) (put-at n w ssp c)
     ∙ getD-set-other (wordsOf ssp c) (slotOf n) (slotOf k) w 0 d
     ∙ sym (stored-at k ssp c)
+
+-- the word that a CSR stores, among a hart's words
+pub stored-in : (n : Csr) (w : List ℕ) → storedOf n (getD w 3 0) (csrsOf w) ≡ getD w (slotOf n) 0
+stored-in Ssp w = refl
+stored-in Sstatus w = refl
+stored-in Stvec w = refl
+stored-in Senvcfg w = refl
+stored-in Sscratch w = refl
+stored-in Sepc w = refl
+stored-in Scause w = refl
+stored-in Stval w = refl
+stored-in Satp w = refl
+stored-in Mstatus w = refl
+stored-in Medeleg w = refl
+stored-in Mtvec w = refl
+stored-in Menvcfg w = refl
+stored-in Mscratch w = refl
+stored-in Mepc w = refl
+stored-in Mcause w = refl
+stored-in Mtval w = refl
+stored-in Mseccfg w = refl

@@ -1,5 +1,6 @@
 pub mod Setters
 pub mod Access
+pub mod Words
 pub mod Legal
 pub mod Setting
 pub mod Trap

@@ -6,6 +6,7 @@ pub mod returns;
 pub mod setters;
 pub mod setting;
 pub mod trap;
+pub mod words;
 
 // Each CSR's stored word; sstatus is a view of mstatus, and ssp stands in the hart.
 pub struct Csrs {

@@ -37,7 +37,8 @@ use Rattle.hart.specs.Trap.{trapM, trapS, trapOf}
 use Rattle.hart.specs.Return.{mretOf, sretOf}
 use Rattle.hart.specs.declared.Hart.{Hart}
 use Rattle.bank.specs.declared.Csrs.{Csrs}
-use Rattle.bank.proofs.Slots.{slotOf, same, other}
+use Rattle.bank.specs.Words.{slotOf}
+use Rattle.bank.proofs.Slots.{same, other}
 
 -- every CSR holds a word that it can hold
 abbrev pub Held : (ssp : ℕ) → Csrs → Type 0
@@ -138,9 +139,9 @@ legal-of h l =
 -- the row of the word in each slot
 abbrev rowsAt : Table (List Field)
 rowsAt =
-    0 ⇒ eights ¦ 1 ⇒ fours ¦ 2 ⇒ envcfg ¦ 3 ⇒ word ¦ 4 ⇒ fours ¦ 5 ⇒ word
-    ¦ 6 ⇒ word ¦ 7 ⇒ satp ¦ 8 ⇒ mstatus ¦ 9 ⇒ medeleg ¦ 10 ⇒ fours ¦ 11 ⇒ envcfg
-    ¦ 12 ⇒ word ¦ 13 ⇒ fours ¦ 14 ⇒ word ¦ 15 ⇒ word ¦ 16 ⇒ mseccfg ¦ otherwise word
+    3 ⇒ eights ¦ 4 ⇒ fours ¦ 5 ⇒ envcfg ¦ 6 ⇒ word ¦ 7 ⇒ fours ¦ 8 ⇒ word
+    ¦ 9 ⇒ word ¦ 10 ⇒ satp ¦ 11 ⇒ mstatus ¦ 12 ⇒ medeleg ¦ 13 ⇒ fours ¦ 14 ⇒ envcfg
+    ¦ 15 ⇒ word ¦ 16 ⇒ fours ¦ 17 ⇒ word ¦ 18 ⇒ word ¦ 19 ⇒ mseccfg ¦ otherwise word
 
 by-slot : (n : Csr) (m : ℕ) → holds n m ≡ legalOf (look (slotOf n) rowsAt) m
 by-slot Ssp m = refl

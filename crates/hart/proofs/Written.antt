@@ -28,7 +28,8 @@ use Rattle.regime.specs.Regime.{controlOf}
 use Rattle.bank.specs.Setting.{settingOf}
 use Rattle.hart.specs.declared.Hart.{Hart}
 use Rattle.bank.specs.declared.Csrs.{Csrs}
-use Rattle.bank.proofs.Slots.{slotOf, same, other}
+use Rattle.bank.specs.Words.{slotOf}
+use Rattle.bank.proofs.Slots.{same, other}
 use Rattle.hart.proofs.Lawful.{left-by-write}
 
 -- a write does not change the row of its own CSR: menvcfg's is always the same, and no other changes menvcfg.SSE
