@@ -1,6 +1,8 @@
 pub mod Lawful
 pub mod Written
 pub mod Kept
+pub mod Worded
+pub mod Carried
 pub mod Turns
 pub mod Rows
 pub mod Steps

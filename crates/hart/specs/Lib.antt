@@ -1,4 +1,5 @@
 pub mod Setters
+pub mod Words
 pub mod Access
 pub mod Legal
 pub mod Trap

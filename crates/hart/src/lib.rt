@@ -3,12 +3,15 @@
 use bank::Csrs;
 
 pub mod access;
+mod crossings;
 pub mod legal;
 pub mod returns;
 pub mod run;
 pub mod setters;
 pub mod step;
 pub mod trap;
+mod whole;
+pub mod words;
 
 // elp says that a landing pad is expected.
 pub struct Hart {

@@ -1,0 +1,42 @@
+// A hart as words: the registers and the twenty other words, in the order of include/sporhulma.h (`setters::of_words` is the way back).
+use super::Hart;
+ghost use mathlib.Core.Path.{_≡_};
+ghost use Rattle.hart.specs.Words.{flagOf, restOf};
+
+pub fn flag(b: bool) -> u64
+    ensures { λ r. ⌜ r ≡ flagOf b ⌝ }
+{
+    if b {
+        return 1;
+    }
+    0
+}
+
+pub fn rest_of(h: Hart) -> [u64; 20]
+    ensures { λ r. ⌜ r ≡ restOf h ⌝ }
+{
+    let c = h.csrs;
+    let elp = flag(h.elp);
+    [
+        h.pc,
+        h.mode,
+        elp,
+        h.ssp,
+        c.stvec,
+        c.senvcfg,
+        c.sscratch,
+        c.sepc,
+        c.scause,
+        c.stval,
+        c.satp,
+        c.mstatus,
+        c.medeleg,
+        c.mtvec,
+        c.menvcfg,
+        c.mscratch,
+        c.mepc,
+        c.mcause,
+        c.mtval,
+        c.mseccfg,
+    ]
+}
