@@ -1,6 +1,6 @@
 -- Where an access is neither masked nor translated, its place is that of steps 3 and 9 alone.
 -- Assumes nothing.
-use mathlib.Core.Path.{_≡_, refl, sym, _∙_}
+use mathlib.Core.Path.{_≡_, refl, sym}
 use mathlib.Core.Bool.{Bool, true, false, not}
 use mathlib.Core.List.{List}
 use Prim.Native.Nat.{ℕ, _^_, _<_}
@@ -14,10 +14,23 @@ use Rattle.page.specs.declared.Kind.the-variants.{Fetch, Load, Store, Push, Pop
 use Rattle.page.specs.declared.Kind.{Kind}
 use Rattle.page.specs.declared.Mode.{Mode}
 use Rattle.address.proofs.Masking.{mask-none}
+use Rattle.address.specs.Align.{alignedOf}
+use Rattle.address.specs.Cause.{misalignedOf}
 use Rattle.address.specs.Control.{modeOf, pmmOf, pagedOf, bareOf, flatOf}
 use Rattle.address.specs.Mask.{pmlenOf, transformedOf}
 use Rattle.address.specs.declared.control.Control.{Control}
-use Rattle.place.specs.Place.{plainPlaceOf, reachedOf, placeOf, flatPlaceOf}
+use Rattle.place.specs.Place.{insideOf, plainPlaceOf, reachedOf, placeOf, flatPlaceOf}
+use Rattle.place.specs.declared.Place.the-variants.{Fault}
+
+-- the two steps in their order
+module _ (k : Kind) (w : Width) (a len : ℕ) where
+  pub flat-aligned : alignedOf w a ≡ true → insideOf k w len a a ≡ flatPlaceOf k w a len
+  unfolding flatPlaceOf
+  flat-aligned e = rw e
+
+  pub flat-misaligned : alignedOf w a ≡ false → Fault (misalignedOf k) a ≡ flatPlaceOf k w a len
+  unfolding flatPlaceOf
+  flat-misaligned e = rw e
 
 off : (b : Bool) → not b ≡ true → b ≡ false
 off true e = cc
