@@ -1,4 +1,4 @@
-// The two loops over the bytes of an access, for any number of bytes.
+// The two loops over the bytes of an access, for any number of bytes, and a load of four bytes without a loop.
 ghost use mathlib.Core.Path.{_≡_};
 ghost use mathlib.Core.List.{_++_};
 ghost use Prim.Native.Nat.{_+_, _^_, _<_, _≤_};
@@ -23,6 +23,18 @@ pub fn read(mem: &[u8], at: usize, n: usize) -> u64
         v = v * 256 + wide(mem[at + i]);
     }
     v
+}
+
+// The same for four bytes, as one sum and not by the loop: the compiler joins the loads of the sum into one also where it leaves those
+// of the loop apart.
+pub fn read_4(mem: &[u8], at: usize) -> u64
+    requires { ⌜ at + 4 ≤ length (now mem) ⌝ }
+    ensures { λ r. ⌜ (r ≡ loadOf (now (mem .entry)) at 4) × (r < 256 ^ 4) ⌝ }
+{
+    wide(mem[at])
+        + wide(mem[at + 1]) * 256
+        + wide(mem[at + 2]) * 65536
+        + wide(mem[at + 3]) * 16777216
 }
 
 // The first n bytes of the part become the bytes of v; the rest stays.

@@ -12,7 +12,7 @@ ghost use Rattle.memory.specs.Bytes.{loadOf, storeOf};
 ghost use Rattle.memory.specs.Extend.{extendOf, signExtended};
 ghost use Rattle.memory.specs.Refusal.{refusedOf};
 
-// The two loops over the bytes of an access.
+// The two loops over the bytes of an access, and a load of four bytes without a loop.
 mod bytes;
 
 // The number at a place, its upper bits zero. Here and in `store` each width has its number of bytes written out: so the compiler makes one
@@ -34,7 +34,7 @@ pub fn word(mem: &[u8], at: usize) -> u32
     requires { ⌜ at + 4 ≤ length (now mem) ⌝ }
     ensures { λ r. ⌜ r ≡ loadOf (now (mem .entry)) at 4 ⌝ }
 {
-    bytes::read(mem, at, 4) as u32
+    bytes::read_4(mem, at) as u32
 }
 
 // A loaded number, its sign copied to the bits above.
