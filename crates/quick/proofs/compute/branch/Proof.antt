@@ -1,7 +1,8 @@
+use mathlib.Core.Path.{sym, _∙_}
 use Rattle.base.specs.Base.{branchOf}
 use Rattle.effect.specs.Jump.{branchOf as takenOf}
 use Rattle.execute.specs.Instruction.{executeOf}
-use Rattle.quick.proofs.Ways.{read, wrote-does, undone-does}
+use Rattle.quick.proofs.Ways.{read, does-as, wrote-does, undone-does}
 use borrow.Author.Needs.{needs}
 use Rattle.quick.proofs.compute.branch.Statement.{statement}
 use Rattle.quick.proofs.compute.branch.Tie as tie
@@ -41,7 +42,8 @@ returns c =
     let d = k .before .before in
     let told = read branchOf (d .before .before .split .ensures) (d .before .imm-b .ensures) (d .branch .ensures) (k .k .given .1) in
     let n = t .before in
-    λ pad ssp s rest m map e. rw (told, ← n .before .before .before .reg .ensures, ← n .before .reg2 .ensures, ← n .condition .ensures, t .if1 .taken, ← c .before .sum .ensures) (c .jumped .ensures rest m)
+    let holds = sym (rw (n .before .before .before .reg .ensures, n .before .reg2 .ensures) at (n .condition .ensures)) ∙ (t .if1 .taken) in
+    λ pad ssp s rest m map e. does-as (c .jumped .result) _ _ _ rest m _ rest m (rw (told, holds, c .before .sum .ensures)) (c .jumped .ensures rest m)
 
 sum-requires-2 : tie.Need-sum-requires-2
 sum-requires-2 c κs = search needs
@@ -60,7 +62,8 @@ returns-2 c =
     let d = k .before .before in
     let told = read branchOf (d .before .before .split .ensures) (d .before .imm-b .ensures) (d .branch .ensures) (k .k .given .1) in
     let n = t .before in
-    λ pad ssp s rest m map e. wrote-does _ _ _ _ _ _ (c .wrote .ensures) _ (rw (told, ← n .before .before .before .reg .ensures, ← n .before .reg2 .ensures, ← n .condition .ensures, t .if1 .left, c .before .sum2 .ensures)) rest m
+    let holds = sym (rw (n .before .before .before .reg .ensures, n .before .reg2 .ensures) at (n .condition .ensures)) ∙ (t .if1 .left) in
+    λ pad ssp s rest m map e. wrote-does _ 0 0 _ _ _ (c .wrote .ensures) _ (rw (told, holds, c .before .sum2 .ensures)) rest m
 
 returns-3 : tie.Need-returns-3
 returns-3 c =

@@ -1,3 +1,4 @@
+use Rattle.quick.proofs.Ways.{does-as}
 use Rattle.execute.specs.Instruction.{executeOf}
 use borrow.Author.Needs.{needs}
 use Rattle.quick.proofs.compute.jal.Statement.{statement}
@@ -21,7 +22,7 @@ jumped-requires c κs = search needs
 returns : tie.Need-returns
 unfolding executeOf
 returns c =
-    λ pad ssp s rest m map e. rw (← c .before .before .before .before .split .ensures, ← c .before .before .imm-j .ensures, ← c .before .sum2 .ensures, ← c .before .before .before .sum .ensures) (c .jumped .ensures rest m)
+    λ pad ssp s rest m map e. does-as (c .jumped .result) _ _ _ rest m _ rest m (rw (c .before .sum2 .ensures, c .before .before .imm-j .ensures, c .before .before .before .sum .ensures, c .before .before .before .before .split .ensures)) (c .jumped .ensures rest m)
 
 pub jal-spec : {M : Type 1} → statement M
 jal-spec =

@@ -1,8 +1,7 @@
 use Rattle.base.specs.Base.{jalrOf}
-use Rattle.effect.specs.Jump.{jalOf, jalrOf as jumpOf}
+use Rattle.effect.specs.Jump.{jalrOf as jumpOf}
 use Rattle.execute.specs.Instruction.{executeOf}
-use Rattle.quick.proofs.Ways.{read, undone-does, unpadded}
-use mathlib.Core.Path.{sym, _∙_}
+use Rattle.quick.proofs.Ways.{read, undone-does, padless}
 use borrow.Author.Needs.{needs}
 use Rattle.quick.proofs.compute.jalr.Statement.{statement}
 use Rattle.quick.proofs.compute.jalr.Tie as tie
@@ -51,14 +50,14 @@ undone-requires-2 : tie.Need-undone-requires-2
 undone-requires-2 c κs = search needs
 
 returns-2 : tie.Need-returns-2
-unfolding executeOf jumpOf jalOf
+unfolding executeOf jumpOf
 returns-2 c =
     let j = c .before .before .before in
     let t = j .before .before .before .before in
     let k = t .before .before .before .before in
     let d = k .before .before in
     let told = read jalrOf (d .before .before .split .ensures) (d .before .imm-i .ensures) (d .jalr .ensures) (k .rd .given .1) in
-    λ ssp s rest m map e. rw (told, e, ← t .before .before .needs-no-pad .ensures, ← t .before .expected .ensures, ← j .before .before .reg .ensures, ← j .before .sum .ensures, ← j .even .ensures, ← c .before .sum2 .ensures) (unpadded _ _ _ _ _ _ _ _ _ _ _ _ _ (t .if1 .left) (c .jumped .ensures rest m))
+    λ ssp s rest m map e. padless (c .jumped .result) _ _ _ _ _ _ rest m _ (t .if1 .left) (rw (told, e, j .even .ensures, j .before .sum .ensures, j .before .before .reg .ensures, c .before .sum2 .ensures, t .before .expected .ensures, t .before .before .needs-no-pad .ensures)) (c .jumped .ensures rest m)
 
 returns-3 : tie.Need-returns-3
 returns-3 c =
