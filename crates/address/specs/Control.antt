@@ -1,8 +1,9 @@
--- Step 1, the effective mode, and what goes by it: which PMM counts, and whether Sv39 is in force.
+-- Step 1, the effective mode, and what goes by it: which PMM counts, whether Sv39 is in force, and where neither concerns an access.
 --
 -- Below, c is what the hart's mode and CSRs say about accesses, and m the effective mode.
-use mathlib.Core.Bool.{Bool, false}
+use mathlib.Core.Bool.{Bool, false, _&&_, not}
 use Prim.Native.Nat.{ℕ}
+use lib.Dec.{eqb}
 use Rattle.word.specs.Choice.{pick}
 use Rattle.page.specs.declared.Kind.{Kind}
 use Rattle.page.specs.declared.Kind.the-variants.{Fetch, Load, Store, Push, Pop, Swap}
@@ -44,3 +45,11 @@ pagedOf Machine sv39 = false
 -- what a leaf is judged by
 abbrev pub regimeOf : Control → Mode → Regime
 regimeOf c m = record { mode = m; sum = c .sum; mxr = c .mxr; sse = c .sse }
+
+-- fetches are not translated: M, or Bare
+unfoldable pub bareOf : Control → Bool
+bareOf c = not (pagedOf (modeOf c Fetch) (c .sv39))
+
+-- loads and stores, which have one effective mode, are neither translated nor masked
+unfoldable pub flatOf : Control → Bool
+flatOf c = not (pagedOf (modeOf c Load) (c .sv39)) && eqb (pmmOf (modeOf c Load) (c .upmm) (c .spmm) (c .mpmm)) 0

@@ -1,9 +1,10 @@
-// Step 1, the effective mode of an access, and what goes by it: which PMM counts, and whether Sv39 is in force.
+// Step 1, the effective mode of an access, and what goes by it: which PMM counts, whether Sv39 is in force, and where neither
+// concerns an access.
 use page::Kind;
 use page::Mode;
 use page::Regime;
 ghost use mathlib.Core.Path.{_≡_};
-ghost use Rattle.address.specs.Control.{underMprv, effectiveOf, modeOf, pmmOf, pagedOf, regimeOf};
+ghost use Rattle.address.specs.Control.{underMprv, effectiveOf, modeOf, pmmOf, pagedOf, regimeOf, bareOf, flatOf};
 
 // What a hart's mode and CSRs say about accesses: sv39 is satp.MODE 8, sse is menvcfg.SSE, and the last three
 // are the PMMs of senvcfg, menvcfg and mseccfg.
@@ -90,4 +91,23 @@ pub fn regime(c: Control, m: Mode) -> Regime
         mxr: c.mxr,
         sse: c.sse,
     }
+}
+
+// Fetches are not translated: M, or Bare.
+pub fn bare(c: Control) -> bool
+    ensures { λ r. ⌜ r ≡ bareOf c ⌝ }
+{
+    let m = c.mode;
+    !paged(c, m)
+}
+
+// Loads and stores are neither translated nor masked.
+pub fn flat(c: Control) -> bool
+    ensures { λ r. ⌜ r ≡ flatOf c ⌝ }
+{
+    let m = effective(c, Kind::Load);
+    if paged(c, m) {
+        return false;
+    }
+    pmm(c, m) == 0
 }

@@ -1,3 +1,4 @@
 -- The laws of a place that belong to no one function.
 pub mod Entry
+pub mod Flat
 pub mod Reach

@@ -1,5 +1,6 @@
--- From a virtual address to a place in memory, or to a cause and its tval: the nine steps. The last definition, `placeOf`,
--- is the whole; those above it are its parts, and `reachedOf` has their order.
+-- From a virtual address to a place in memory, or to a cause and its tval: the nine steps. `placeOf` is the whole; the definitions
+-- above it are its parts, and `reachedOf` has their order. `flatPlaceOf`, the last, is what is left of it for an access that is neither
+-- masked nor translated (proofs/Flat.antt).
 --
 -- Below, c is what the hart's mode and CSRs say, m the effective mode, a the address as the program gives it, t the transformed
 -- one, which is also tval, p the physical one, and len the number of bytes of memory.
@@ -91,3 +92,7 @@ reachedOf c m k w t map len =
 -- steps 1 to 9
 unfoldable pub placeOf : Control → Kind → Width → (a : ℕ) → (map : List ℕ) → (len : ℕ) → Place
 placeOf c k w a map len = reachedOf c (modeOf c k) k w (transformedOf c (modeOf c k) k a) map len
+
+-- steps 3 and 9, of an access that is neither masked nor translated
+unfoldable pub flatPlaceOf : Kind → Width → (a len : ℕ) → Place
+flatPlaceOf k w a len = pick (alignedOf w a) (insideOf k w len a a) (Fault (misalignedOf k) a)

@@ -16,14 +16,17 @@ use page::Regime;
 use page::kinds;
 use page::map;
 use page::map::Found;
+ghost use mathlib.Core.Bool.{false};
 ghost use mathlib.Core.Path.{_≡_};
 ghost use Prim.Native.Nat.{_^_, _≤_};
 ghost use Rattle.isa.specs.declared.Width.the-variants.{Word};
 ghost use Rattle.page.specs.declared.Kind.the-variants.{Fetch};
 ghost use Rattle.page.specs.declared.map.Found.the-variants.{Absent};
+ghost use Rattle.page.specs.Kinds.{isFetch, isShadow};
 ghost use Rattle.page.specs.Map.{lookupOf};
+ghost use Rattle.address.specs.Control.{bareOf, flatOf};
 ghost use Rattle.word.specs.Choice.{pick};
-ghost use Rattle.place.specs.Place.{withinOf, insideOf, canonicalOf, pageNumber, physicalOf, settleOf, throughOf, pagedPlaceOf, plainPlaceOf, placeOf};
+ghost use Rattle.place.specs.Place.{withinOf, insideOf, canonicalOf, pageNumber, physicalOf, settleOf, throughOf, pagedPlaceOf, plainPlaceOf, placeOf, flatPlaceOf};
 
 // Step 9's test: all n bytes from p on lie in memory of this length.
 fn within(len: u64, p: u64, n: u64) -> bool
@@ -149,7 +152,8 @@ pub fn fetch(c: Control, a: Virtual, map: &[u64], len: u64) -> Place
     Place::Fault(cause::misaligned(Kind::Fetch), a.0)
 }
 
-// The only ways from a Virtual to a Physical, in Bare and in M too, are this and `fetch`.
+// The only ways from a Virtual to a Physical, in Bare and in M too, are this and `fetch`, and the quick ones below, which give the
+// same places.
 pub fn translate(c: Control, k: Kind, w: Width, a: Virtual, map: &[u64], len: u64) -> Place
     requires { ⌜ len ≤ 2 ^ 20 ⌝ }
     ensures { λ r. ⌜ r ≡ placeOf c k w (a .0) (now (map .entry)) len ⌝ }
@@ -163,4 +167,45 @@ pub fn translate(c: Control, k: Kind, w: Width, a: Virtual, map: &[u64], len: u6
         return plain(k, w, t, len);
     }
     Place::Fault(cause::misaligned(k), t.0)
+}
+
+// Steps 3 and 9 of an access that is neither masked nor translated.
+fn plainly(k: Kind, w: Width, a: Virtual, len: u64) -> Place
+    requires { ⌜ len ≤ 2 ^ 20 ⌝ }
+    ensures { λ r. ⌜ r ≡ flatPlaceOf k w (a .0) len ⌝ }
+{
+    if align::aligned(w, a) {
+        return inside(k, w, len, Physical(a.0), a);
+    }
+    Place::Fault(cause::misaligned(k), a.0)
+}
+
+// The same place as `fetch` gives; `bare` is known beforehand.
+pub fn quick_fetch(bare: bool, c: Control, a: Virtual, map: &[u64], len: u64) -> Place
+    requires { ⌜ (len ≤ 2 ^ 20) × (bare ≡ bareOf c) ⌝ }
+    ensures { λ r. ⌜ r ≡ placeOf c Fetch Word (a .0) (now (map .entry)) len ⌝ }
+{
+    if bare {
+        return plainly(Kind::Fetch, Width::Word, a, len);
+    }
+    fetch(c, a, map, len)
+}
+
+// The same place as `translate` gives a load or a store; `flat` is known beforehand.
+pub fn quick_data(
+    flat: bool,
+    c: Control,
+    k: Kind,
+    w: Width,
+    a: Virtual,
+    map: &[u64],
+    len: u64,
+) -> Place
+    requires { ⌜ (len ≤ 2 ^ 20) × (flat ≡ flatOf c) × (isShadow k ≡ false) × (isFetch k ≡ false) ⌝ }
+    ensures { λ r. ⌜ r ≡ placeOf c k w (a .0) (now (map .entry)) len ⌝ }
+{
+    if flat {
+        return plainly(k, w, a, len);
+    }
+    translate(c, k, w, a, map, len)
 }

@@ -1,0 +1,63 @@
+-- Where an access is neither masked nor translated, its place is that of steps 3 and 9 alone.
+-- Assumes nothing.
+use mathlib.Core.Path.{_≡_, refl, sym, _∙_}
+use mathlib.Core.Bool.{Bool, true, false, not}
+use mathlib.Core.List.{List}
+use Prim.Native.Nat.{ℕ, _^_, _<_}
+use lib.Dec.{eqb}
+use borrow.Author.Tests.{eqb-true}
+use Rattle.word.proofs.Bools.{both}
+use Rattle.isa.specs.declared.Width.the-variants.{Word}
+use Rattle.isa.specs.declared.Width.{Width}
+use Rattle.page.specs.Kinds.{isFetch, isShadow}
+use Rattle.page.specs.declared.Kind.the-variants.{Fetch, Load, Store, Push, Pop, Swap}
+use Rattle.page.specs.declared.Kind.{Kind}
+use Rattle.page.specs.declared.Mode.{Mode}
+use Rattle.address.proofs.Masking.{mask-none}
+use Rattle.address.specs.Control.{modeOf, pmmOf, pagedOf, bareOf, flatOf}
+use Rattle.address.specs.Mask.{pmlenOf, transformedOf}
+use Rattle.address.specs.declared.control.Control.{Control}
+use Rattle.place.specs.Place.{plainPlaceOf, reachedOf, placeOf, flatPlaceOf}
+
+off : (b : Bool) → not b ≡ true → b ≡ false
+off true e = cc
+off false e = refl
+
+-- the one effective mode of loads and stores
+data-mode : (c : Control) (k : Kind) → isShadow k ≡ false → isFetch k ≡ false → modeOf c k ≡ modeOf c Load
+unfolding modeOf
+data-mode c Fetch s f = cc
+data-mode c Load s f = refl
+data-mode c Store s f = refl
+data-mode c Push s f = cc
+data-mode c Pop s f = cc
+data-mode c Swap s f = cc
+
+-- PMM 0 masks nothing
+unmasked : (c : Control) (m : Mode) (k : Kind) (a : ℕ) → a < 2 ^ 64 → isFetch k ≡ false
+    → pmmOf m (c .upmm) (c .spmm) (c .mpmm) ≡ 0
+    → transformedOf c m k a ≡ a
+unfolding transformedOf
+unmasked c m k a h f e = rw (f) (sym (mask-none (pmlenOf (pmmOf m (c .upmm) (c .spmm) (c .mpmm))) (pagedOf m (c .sv39)) a h (rw e)))
+
+-- in M or Bare the address stays what it is, and an access that is no shadow access has steps 3 and 9 left
+plainly-reached : (c : Control) (m : Mode) (k : Kind) (w : Width) (a : ℕ) (map : List ℕ) (len : ℕ)
+    → isShadow k ≡ false → pagedOf m (c .sv39) ≡ false
+    → reachedOf c m k w a map len ≡ flatPlaceOf k w a len
+unfolding reachedOf plainPlaceOf flatPlaceOf
+plainly-reached c m k w a map len s p = rw (p, s)
+
+pub fetch-flat : (c : Control) (a : ℕ) (map : List ℕ) (len : ℕ) → bareOf c ≡ true
+    → placeOf c Fetch Word a map len ≡ flatPlaceOf Fetch Word a len
+unfolding placeOf transformedOf bareOf
+fetch-flat c a map len e = plainly-reached c (modeOf c Fetch) Fetch Word a map len refl (off _ e)
+
+pub data-flat : (c : Control) (k : Kind) (w : Width) (a : ℕ) (map : List ℕ) (len : ℕ) → flatOf c ≡ true
+    → isShadow k ≡ false → isFetch k ≡ false → a < 2 ^ 64
+    → placeOf c k w a map len ≡ flatPlaceOf k w a len
+unfolding placeOf flatOf
+data-flat c k w a map len e s f h =
+    let m = modeOf c Load in
+    let b = both (not (pagedOf m (c .sv39))) (eqb (pmmOf m (c .upmm) (c .spmm) (c .mpmm)) 0) e in
+    rw (data-mode c k s f, unmasked c m k a h f (eqb-true _ _ (b .1)))
+    (plainly-reached c m k w a map len s (off _ (b .0)))

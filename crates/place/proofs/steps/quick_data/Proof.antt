@@ -1,0 +1,16 @@
+-- `place::steps::quick_data` meets its contract: where loads and stores are neither masked nor translated, steps 3 and 9 are what
+-- is left. Assumes nothing.
+use mathlib.Core.Path.{sym, _∙_}
+use native.Mathlib.Omega.{arith}
+use Rattle.place.proofs.Flat.{data-flat}
+use borrow.Author.Needs.{needs}
+use Rattle.place.proofs.steps.quick_data.Statement.{statement}
+use Rattle.place.proofs.steps.quick_data.Tie as tie
+
+returns : tie.Need-returns
+returns c =
+    let s = c .before .before .before in
+    c .plainly .ensures ∙ sym (data-flat _ _ _ _ _ _ (sym (s .pre .1) ∙ c .before .if1 .taken) (s .pre .2) (s .pre .3) (omega arith))
+
+pub quick-data-spec : {M : Type 1} → statement M
+quick-data-spec = tie.close (tie.spec (λ c κs. search needs) returns (λ c κs. search needs) (λ c. c .translate .ensures))
