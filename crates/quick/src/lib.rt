@@ -8,6 +8,10 @@ ghost use mathlib.Core.Path.{_≡_};
 
 // RV64I that touches the registers and pc alone.
 mod compute;
+// Loads, stores, push and pop-check.
+mod access;
+// The fetch, and the major opcodes.
+pub mod opcodes;
 
 // Whether an instruction was done, and then pc after it.
 pub struct Tried {
