@@ -50,7 +50,7 @@ fn load_at(
     map: &[u64],
 ) -> Tried
     requires { ⌜ (length (now mem) ≤ 2 ^ 20) × (flat ≡ flatOf c) ⌝ }
-    ensures { λ r. ⌜ ((v1 v2 ssp : ℕ) (rest : List ℕ) → Does (r .done) (atOf (access.Load n sign) (placeOf c kind.Load n a (now (map .entry)) (length (now (mem .entry)))) rd v1 v2 ssp (nextOf pc) (now (mem .entry))) (now (x .entry)) rest (now (mem .entry)) (r .pc) (now (x .exit)) rest (now (mem .entry))) ⌝ }
+    ensures { λ r. ⌜ ((rest : List ℕ) → Does (r .done) (atOf (access.Load n sign) (placeOf c kind.Load n a (now (map .entry)) (length (now (mem .entry)))) rd 0 0 0 (nextOf pc) (now (mem .entry))) (now (x .entry)) rest (now (mem .entry)) (r .pc) (now (x .exit)) rest (now (mem .entry))) ⌝ }
 {
     match steps::quick_data(flat, c, Kind::Load, n, Virtual(a), map, mem.len() as u64) {
         Place::At(q) => {
@@ -98,7 +98,7 @@ fn store_at(
     map: &[u64],
 ) -> Tried
     requires { ⌜ (length (now mem) ≤ 2 ^ 20) × (flat ≡ flatOf c) ⌝ }
-    ensures { λ r. ⌜ ((rd v1 ssp : ℕ) (x rest : List ℕ) → Does (r .done) (atOf (access.Store n) (placeOf c kind.Store n a (now (map .entry)) (length (now (mem .entry)))) rd v1 v ssp (nextOf pc) (now (mem .entry))) x rest (now (mem .entry)) (r .pc) x rest (now (mem .exit))) ⌝ }
+    ensures { λ r. ⌜ ((x rest : List ℕ) → Does (r .done) (atOf (access.Store n) (placeOf c kind.Store n a (now (map .entry)) (length (now (mem .entry)))) 0 0 v 0 (nextOf pc) (now (mem .entry))) x rest (now (mem .entry)) (r .pc) x rest (now (mem .exit))) ⌝ }
 {
     match steps::quick_data(flat, c, Kind::Store, n, Virtual(a), map, mem.len() as u64) {
         Place::At(q) => {
@@ -137,7 +137,7 @@ pub fn store(
 // A push of v: to ssp - 8, which is then ssp.
 fn push(v: u64, pc: u64, rest: &mut [u64; 20], c: Control, mem: &mut [u8], map: &[u64]) -> Tried
     requires { ⌜ length (now mem) ≤ 2 ^ 20 ⌝ }
-    ensures { λ r. ⌜ ((rd v1 : ℕ) (x : List ℕ) → Does (r .done) (atOf access.Push (placeOf c kind.Push Double (pushOf (getD (now (rest .entry)) 3 0)) (now (map .entry)) (length (now (mem .entry)))) rd v1 v (getD (now (rest .entry)) 3 0) (nextOf pc) (now (mem .entry))) x (now (rest .entry)) (now (mem .entry)) (r .pc) x (now (rest .exit)) (now (mem .exit))) ⌝ }
+    ensures { λ r. ⌜ ((x : List ℕ) → Does (r .done) (atOf access.Push (placeOf c kind.Push Double (pushOf (getD (now (rest .entry)) 3 0)) (now (map .entry)) (length (now (mem .entry)))) 0 0 v (getD (now (rest .entry)) 3 0) (nextOf pc) (now (mem .entry))) x (now (rest .entry)) (now (mem .entry)) (r .pc) x (now (rest .exit)) (now (mem .exit))) ⌝ }
 {
     let top = sum::difference(rest[3], 8);
     match steps::translate(c, Kind::Push, Width::Double, Virtual(top), map, mem.len() as u64) {
@@ -153,7 +153,7 @@ fn push(v: u64, pc: u64, rest: &mut [u64; 20], c: Control, mem: &mut [u8], map: 
 // A pop-check of v: at ssp, which goes up by 8 where v is found.
 fn pop(v: u64, pc: u64, rest: &mut [u64; 20], c: Control, mem: &[u8], map: &[u64]) -> Tried
     requires { ⌜ length (now mem) ≤ 2 ^ 20 ⌝ }
-    ensures { λ r. ⌜ ((rd v2 : ℕ) (x : List ℕ) → Does (r .done) (atOf access.Pop (placeOf c kind.Pop Double (getD (now (rest .entry)) 3 0) (now (map .entry)) (length (now (mem .entry)))) rd v v2 (getD (now (rest .entry)) 3 0) (nextOf pc) (now (mem .entry))) x (now (rest .entry)) (now (mem .entry)) (r .pc) x (now (rest .exit)) (now (mem .entry))) ⌝ }
+    ensures { λ r. ⌜ ((x : List ℕ) → Does (r .done) (atOf access.Pop (placeOf c kind.Pop Double (getD (now (rest .entry)) 3 0) (now (map .entry)) (length (now (mem .entry)))) 0 v 0 (getD (now (rest .entry)) 3 0) (nextOf pc) (now (mem .entry))) x (now (rest .entry)) (now (mem .entry)) (r .pc) x (now (rest .exit)) (now (mem .entry))) ⌝ }
 {
     let ssp = rest[3];
     match steps::translate(c, Kind::Pop, Width::Double, Virtual(ssp), map, mem.len() as u64) {
