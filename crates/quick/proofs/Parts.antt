@@ -1,7 +1,7 @@
 -- What the effect of an access is made from: not every operand counts for every access, and so the functions that make the accesses
 -- take only those that do. Where one does not count, it is written 0.
 -- Assumes nothing.
-use mathlib.Core.Bool.{Bool, true, false}
+use mathlib.Core.Bool.{Bool, true}
 use mathlib.Core.List.{List}
 use mathlib.Core.Path.{_≡_, refl, ap, _∙_}
 use Prim.Native.Nat.{ℕ}
@@ -21,7 +21,6 @@ use Rattle.transfer.specs.declared.access.Gate.{Gate}
 use Rattle.transfer.specs.declared.access.Gate.the-variants.{Open, Off}
 use Rattle.effect.specs.Register.{regOf}
 use Rattle.effect.specs.declared.Setting.{Setting}
-use Rattle.effect.specs.declared.Effect.{Effect}
 use Rattle.execute.specs.Instruction.{nextOf, executeOf}
 
 -- a load: its register

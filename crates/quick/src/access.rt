@@ -103,7 +103,10 @@ fn store_at(
     match steps::quick_data(flat, c, Kind::Store, n, Virtual(a), map, mem.len() as u64) {
         Place::At(q) => {
             memory::store(mem, q.index(), n, v);
-            Tried { done: true, pc: sum::sum(pc, 4) }
+            Tried {
+                done: true,
+                pc: sum::sum(pc, 4),
+            }
         }
         Place::Fault(_, _) => undone(pc),
     }
@@ -140,11 +143,21 @@ fn push(v: u64, pc: u64, rest: &mut [u64; 20], c: Control, mem: &mut [u8], map: 
     ensures { λ r. ⌜ ((x : List ℕ) → Does (r .done) (atOf access.Push (placeOf c kind.Push Double (pushOf (getD (now (rest .entry)) 3 0)) (now (map .entry)) (length (now (mem .entry)))) 0 0 v (getD (now (rest .entry)) 3 0) (nextOf pc) (now (mem .entry))) x (now (rest .entry)) (now (mem .entry)) (r .pc) x (now (rest .exit)) (now (mem .exit))) ⌝ }
 {
     let top = sum::difference(rest[3], 8);
-    match steps::translate(c, Kind::Push, Width::Double, Virtual(top), map, mem.len() as u64) {
+    match steps::translate(
+        c,
+        Kind::Push,
+        Width::Double,
+        Virtual(top),
+        map,
+        mem.len() as u64,
+    ) {
         Place::At(q) => {
             memory::store(mem, q.index(), Width::Double, v);
             rest[3] = top;
-            Tried { done: true, pc: sum::sum(pc, 4) }
+            Tried {
+                done: true,
+                pc: sum::sum(pc, 4),
+            }
         }
         Place::Fault(_, _) => undone(pc),
     }
@@ -156,11 +169,21 @@ fn pop(v: u64, pc: u64, rest: &mut [u64; 20], c: Control, mem: &[u8], map: &[u64
     ensures { λ r. ⌜ ((x : List ℕ) → Does (r .done) (atOf access.Pop (placeOf c kind.Pop Double (getD (now (rest .entry)) 3 0) (now (map .entry)) (length (now (mem .entry)))) 0 v 0 (getD (now (rest .entry)) 3 0) (nextOf pc) (now (mem .entry))) x (now (rest .entry)) (now (mem .entry)) (r .pc) x (now (rest .exit)) (now (mem .entry))) ⌝ }
 {
     let ssp = rest[3];
-    match steps::translate(c, Kind::Pop, Width::Double, Virtual(ssp), map, mem.len() as u64) {
+    match steps::translate(
+        c,
+        Kind::Pop,
+        Width::Double,
+        Virtual(ssp),
+        map,
+        mem.len() as u64,
+    ) {
         Place::At(q) => {
             if memory::load(mem, q.index(), Width::Double) == v {
                 rest[3] = sum::sum(ssp, 8);
-                return Tried { done: true, pc: sum::sum(pc, 4) };
+                return Tried {
+                    done: true,
+                    pc: sum::sum(pc, 4),
+                };
             }
             undone(pc)
         }

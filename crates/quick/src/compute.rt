@@ -27,7 +27,10 @@ ghost use Rattle.quick.specs.Quick.{Does, Computes};
 pub fn undone(pc: u64) -> Tried
     ensures { λ r. ⌜ r ≡ record { done = false; pc = pc } ⌝ }
 {
-    Tried { done: false, pc: pc }
+    Tried {
+        done: false,
+        pc: pc,
+    }
 }
 
 // Done: rd takes v, and pc goes on at `next`.
@@ -35,7 +38,10 @@ pub fn wrote(x: &mut [u64; 32], rd: u8, v: u64, next: u64) -> Tried
     ensures { λ r. ⌜ (r ≡ record { done = true; pc = next }) × (now (x .exit) ≡ putOf rd v (now (x .entry))) ⌝ }
 {
     register::put(x, rd, v);
-    Tried { done: true, pc: next }
+    Tried {
+        done: true,
+        pc: next,
+    }
 }
 
 // To a target, with the link in rd: JAL, and a branch that is taken, whose rd is 0.
@@ -57,13 +63,24 @@ pub fn lui(w: u32, x: &mut [u64; 32], pc: u64) -> Tried
 pub fn auipc(w: u32, x: &mut [u64; 32], pc: u64) -> Tried
     ensures { λ r. ⌜ ((pad : Bool) → Computes (Auipc (fieldsOf w .rd) (immU w)) w (now (x .entry)) pc pad r (now (x .exit))) ⌝ }
 {
-    wrote(x, field::split(w).rd, sum::sum(pc, immediate::imm_u(w)), sum::sum(pc, 4))
+    wrote(
+        x,
+        field::split(w).rd,
+        sum::sum(pc, immediate::imm_u(w)),
+        sum::sum(pc, 4),
+    )
 }
 
 pub fn jal(w: u32, x: &mut [u64; 32], pc: u64) -> Tried
     ensures { λ r. ⌜ ((pad : Bool) → Computes (Jal (fieldsOf w .rd) (immJ w)) w (now (x .entry)) pc pad r (now (x .exit))) ⌝ }
 {
-    jumped(x, field::split(w).rd, sum::sum(pc, 4), sum::sum(pc, immediate::imm_j(w)), pc)
+    jumped(
+        x,
+        field::split(w).rd,
+        sum::sum(pc, 4),
+        sum::sum(pc, immediate::imm_j(w)),
+        pc,
+    )
 }
 
 pub fn jalr(w: u32, x: &mut [u64; 32], pc: u64, pad: bool) -> Tried

@@ -6,21 +6,6 @@ use borrow.Author.Needs.{needs}
 use Rattle.quick.proofs.opcodes.fetch.Statement.{statement}
 use Rattle.quick.proofs.opcodes.fetch.Tie as tie
 
-quick-fetch-requires : tie.Need-quick-fetch-requires
-quick-fetch-requires c κs = search needs
-
-enum-known-q : tie.Need-enum-known-q
-enum-known-q c = search needs
-
-index-requires : tie.Need-index-requires
-index-requires c κs = place-within _ _ _ _ _ _ _ (sym (c .before .before .before .quick-fetch .ensures) ∙ c .before .q .given .1) .0
-
-word-requires : tie.Need-word-requires
-word-requires c κs = rw (c .index .ensures) (place-index _ _ _ _ _ _ _ (sym (c .before .before .before .before .quick-fetch .ensures) ∙ c .before .before .q .given .1))
-
-enum-known-cause : tie.Need-enum-known-cause
-enum-known-cause c = search needs
-
 returns : tie.Need-returns
 unfolding fetchedOf
 returns c =
@@ -35,10 +20,10 @@ pub fetch-spec : {M : Type 1} → statement M
 fetch-spec =
     tie.close
     (tie.spec
-    quick-fetch-requires
-    enum-known-q
-    index-requires
-    word-requires
-    enum-known-cause
+    (λ c κs. search needs)
+    (λ c. search needs)
+    (λ c κs. place-within _ _ _ _ _ _ _ (sym (c .before .before .before .quick-fetch .ensures) ∙ c .before .q .given .1) .0)
+    (λ c κs. rw (c .index .ensures) (place-index _ _ _ _ _ _ _ (sym (c .before .before .before .before .quick-fetch .ensures) ∙ c .before .before .q .given .1)))
+    (λ c. search needs)
     returns
     returns-2)
