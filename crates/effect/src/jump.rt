@@ -20,7 +20,7 @@ pub fn jal(rd: u8, link: u64, target: u64) -> Effect
 }
 
 // x1 and x5, through which a function returns, and x7, which holds a landing pad's label.
-fn needs_no_pad(rs1: u8) -> bool
+pub fn needs_no_pad(rs1: u8) -> bool
     ensures { λ r. ⌜ r ≡ needsNoPad rs1 ⌝ }
 {
     choice::either(rs1 == 1, choice::either(rs1 == 5, rs1 == 7))
@@ -37,13 +37,13 @@ pub fn jalr(rd: u8, rs1: u8, link: u64, a: u64, off: u64, pad: bool) -> Effect
     Effect::Trap(cause::misaligned(Kind::Fetch), to)
 }
 
-fn even(target: u64) -> u64
+pub fn even(target: u64) -> u64
     ensures { λ r. ⌜ r ≡ evenOf target ⌝ }
 {
     target - target % 2
 }
 
-fn expected(pad: bool, exempt: bool) -> bool
+pub fn expected(pad: bool, exempt: bool) -> bool
     ensures { λ r. ⌜ r ≡ (pad && not exempt) ⌝ }
 {
     if pad {

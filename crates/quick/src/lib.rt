@@ -4,8 +4,6 @@
 //
 // Its own crate, since it is a second way to the same effects: the definitions are those of `execute`, and nothing here adds to them.
 
-ghost use mathlib.Core.Path.{_≡_};
-
 // RV64I that touches the registers and pc alone.
 mod compute;
 // Loads, stores, push and pop-check.

@@ -1,0 +1,3 @@
+-- The laws of the quick way that belong to no one function.
+pub mod Ways
+pub mod Parts

@@ -1,0 +1,161 @@
+// RV64I that touches the registers and pc alone: one function for each major opcode. Each reads its words by the decoder's own
+// function, writes rd, and says where pc goes on; a jump that traps, or that must land on a pad, is left undone.
+//
+// A branch writes 0 to register 0, as its effect says: so what is left of the registers is the effect's, whatever they held.
+use super::Tried;
+use effect::compute;
+use effect::jump;
+use effect::register;
+use effect::register::reg;
+use isa::Instruction;
+use word::field;
+use word::immediate;
+use word::sum;
+ghost use mathlib.Core.Bool.{Bool, true, false};
+ghost use mathlib.Core.List.{List};
+ghost use mathlib.Core.Path.{_≡_};
+ghost use Prim.Native.Nat.{ℕ};
+ghost use Rattle.word.specs.Field.{fieldsOf};
+ghost use Rattle.word.specs.Immediate.{immI, immB, immU, immJ};
+ghost use Rattle.isa.specs.declared.Instruction.the-variants.{Lui, Auipc, Jal};
+ghost use Rattle.base.specs.Base.{jalrOf, branchOf, opImmOf, opImm32Of, opOf, op32Of};
+ghost use Rattle.effect.specs.Jump.{jalOf};
+ghost use Rattle.effect.specs.Register.{putOf};
+ghost use Rattle.quick.specs.Quick.{Does, Computes};
+
+// Nothing is changed: the whole way does the instruction.
+pub fn undone(pc: u64) -> Tried
+    ensures { λ r. ⌜ r ≡ record { done = false; pc = pc } ⌝ }
+{
+    Tried {
+        done: false,
+        pc: pc,
+    }
+}
+
+// Done: rd takes v, and pc goes on at `next`.
+pub fn wrote(x: &mut [u64; 32], rd: u8, v: u64, next: u64) -> Tried
+    ensures { λ r. ⌜ (r ≡ record { done = true; pc = next }) × (now (x .exit) ≡ putOf rd v (now (x .entry))) ⌝ }
+{
+    register::put(x, rd, v);
+    Tried {
+        done: true,
+        pc: next,
+    }
+}
+
+// To a target, with the link in rd: JAL, and a branch that is taken, whose rd is 0.
+fn jumped(x: &mut [u64; 32], rd: u8, link: u64, target: u64, pc: u64) -> Tried
+    ensures { λ r. ⌜ ((rest m : List ℕ) → Does (r .done) (jalOf rd link target) (now (x .entry)) rest m (r .pc) (now (x .exit)) rest m) ⌝ }
+{
+    if target % 4 == 0 {
+        return wrote(x, rd, link, target);
+    }
+    undone(pc)
+}
+
+pub fn lui(w: u32, x: &mut [u64; 32], pc: u64) -> Tried
+    ensures { λ r. ⌜ ((pad : Bool) → Computes (Lui (fieldsOf w .rd) (immU w)) w (now (x .entry)) pc pad r (now (x .exit))) ⌝ }
+{
+    wrote(x, field::split(w).rd, immediate::imm_u(w), sum::sum(pc, 4))
+}
+
+pub fn auipc(w: u32, x: &mut [u64; 32], pc: u64) -> Tried
+    ensures { λ r. ⌜ ((pad : Bool) → Computes (Auipc (fieldsOf w .rd) (immU w)) w (now (x .entry)) pc pad r (now (x .exit))) ⌝ }
+{
+    wrote(
+        x,
+        field::split(w).rd,
+        sum::sum(pc, immediate::imm_u(w)),
+        sum::sum(pc, 4),
+    )
+}
+
+pub fn jal(w: u32, x: &mut [u64; 32], pc: u64) -> Tried
+    ensures { λ r. ⌜ ((pad : Bool) → Computes (Jal (fieldsOf w .rd) (immJ w)) w (now (x .entry)) pc pad r (now (x .exit))) ⌝ }
+{
+    jumped(
+        x,
+        field::split(w).rd,
+        sum::sum(pc, 4),
+        sum::sum(pc, immediate::imm_j(w)),
+        pc,
+    )
+}
+
+pub fn jalr(w: u32, x: &mut [u64; 32], pc: u64, pad: bool) -> Tried
+    ensures { λ r. ⌜ Computes (jalrOf (fieldsOf w) (immI w)) w (now (x .entry)) pc pad r (now (x .exit)) ⌝ }
+{
+    match base::jalr(field::split(w), immediate::imm_i(w)) {
+        Instruction::Jalr(rd, rs1, off) => {
+            if jump::expected(pad, jump::needs_no_pad(rs1)) {
+                return undone(pc);
+            }
+            let target = jump::even(sum::sum(reg(x, rs1), off));
+            jumped(x, rd, sum::sum(pc, 4), target, pc)
+        }
+        _ => undone(pc),
+    }
+}
+
+pub fn branch(w: u32, x: &mut [u64; 32], pc: u64) -> Tried
+    ensures { λ r. ⌜ ((pad : Bool) → Computes (branchOf (fieldsOf w) (immB w)) w (now (x .entry)) pc pad r (now (x .exit))) ⌝ }
+{
+    match base::branch(field::split(w), immediate::imm_b(w)) {
+        Instruction::Branch(k, rs1, rs2, off) => {
+            if compute::condition(k, reg(x, rs1), reg(x, rs2)) {
+                return jumped(x, 0, 0, sum::sum(pc, off), pc);
+            }
+            wrote(x, 0, 0, sum::sum(pc, 4))
+        }
+        _ => undone(pc),
+    }
+}
+
+pub fn op_imm(w: u32, x: &mut [u64; 32], pc: u64) -> Tried
+    ensures { λ r. ⌜ ((pad : Bool) → Computes (opImmOf (fieldsOf w) (immI w)) w (now (x .entry)) pc pad r (now (x .exit))) ⌝ }
+{
+    match base::op_imm(field::split(w), immediate::imm_i(w)) {
+        Instruction::OpImm(o, rd, rs1, v) => {
+            let r = compute::operation(o, reg(x, rs1), v);
+            wrote(x, rd, r, sum::sum(pc, 4))
+        }
+        _ => undone(pc),
+    }
+}
+
+pub fn op_imm_32(w: u32, x: &mut [u64; 32], pc: u64) -> Tried
+    ensures { λ r. ⌜ ((pad : Bool) → Computes (opImm32Of (fieldsOf w) (immI w)) w (now (x .entry)) pc pad r (now (x .exit))) ⌝ }
+{
+    match base::op_imm_32(field::split(w), immediate::imm_i(w)) {
+        Instruction::OpImm32(o, rd, rs1, v) => {
+            let r = compute::word_operation(o, reg(x, rs1), v);
+            wrote(x, rd, r, sum::sum(pc, 4))
+        }
+        _ => undone(pc),
+    }
+}
+
+pub fn op(w: u32, x: &mut [u64; 32], pc: u64) -> Tried
+    ensures { λ r. ⌜ ((pad : Bool) → Computes (opOf (fieldsOf w)) w (now (x .entry)) pc pad r (now (x .exit))) ⌝ }
+{
+    match base::op(field::split(w)) {
+        Instruction::Op(o, rd, rs1, rs2) => {
+            let r = compute::operation(o, reg(x, rs1), reg(x, rs2));
+            wrote(x, rd, r, sum::sum(pc, 4))
+        }
+        _ => undone(pc),
+    }
+}
+
+pub fn op_32(w: u32, x: &mut [u64; 32], pc: u64) -> Tried
+    ensures { λ r. ⌜ ((pad : Bool) → Computes (op32Of (fieldsOf w)) w (now (x .entry)) pc pad r (now (x .exit))) ⌝ }
+{
+    match base::op_32(field::split(w)) {
+        Instruction::Op32(o, rd, rs1, rs2) => {
+            let r = compute::word_operation(o, reg(x, rs1), reg(x, rs2));
+            wrote(x, rd, r, sum::sum(pc, 4))
+        }
+        _ => undone(pc),
+    }
+}

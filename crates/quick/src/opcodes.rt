@@ -1,0 +1,62 @@
+// The quick way's two ends: the fetch, and the instruction of a word by its major opcode.
+use super::Tried;
+use super::access;
+use super::compute;
+use address::Virtual;
+use address::control::Control;
+use effect::Setting;
+use execute::plan::Fetched;
+use place::Place;
+use place::steps;
+ghost use mathlib.Core.Path.{_≡_};
+ghost use Prim.Native.Nat.{_^_, _≤_};
+ghost use lib.ListN.{length, getD};
+ghost use Rattle.address.specs.Control.{bareOf, flatOf};
+ghost use Rattle.decoder.specs.Decode.{decodeOf};
+ghost use Rattle.execute.specs.Instruction.{executeOf};
+ghost use Rattle.execute.specs.Plan.{fetchedOf};
+ghost use Rattle.execute.specs.declared.Source.the-variants.{Fetch};
+ghost use Rattle.quick.specs.Quick.{Does};
+
+// The word at pc; `bare` says beforehand that fetches are not translated.
+pub fn fetch(bare: bool, c: Control, pc: u64, mem: &[u8], map: &[u64]) -> Fetched
+    requires { ⌜ (length (now mem) ≤ 2 ^ 20) × (bare ≡ bareOf c) ⌝ }
+    ensures { λ r. ⌜ r ≡ fetchedOf Fetch c pc (now (mem .entry)) (now (map .entry)) ⌝ }
+{
+    match steps::quick_fetch(bare, c, Virtual(pc), map, mem.len() as u64) {
+        Place::At(q) => Fetched::Word(memory::word(mem, q.index())),
+        Place::Fault(cause, tval) => Fetched::Fault(cause, tval),
+    }
+}
+
+// The instruction that a word names; `flat` says beforehand that loads and stores are neither masked nor translated. FENCE, the swap, and
+// what no row has are left to the whole way.
+pub fn word(
+    w: u32,
+    x: &mut [u64; 32],
+    rest: &mut [u64; 20],
+    pc: u64,
+    flat: bool,
+    s: Setting,
+    mem: &mut [u8],
+    map: &[u64],
+) -> Tried
+    requires { ⌜ (length (now mem) ≤ 2 ^ 20) × (flat ≡ flatOf (s .control)) ⌝ }
+    ensures { λ r. ⌜ Does (r .done) (executeOf (decodeOf w) w (now (x .entry)) pc (getD (now (rest .entry)) 3 0) s (now (mem .entry)) (now (map .entry))) (now (x .entry)) (now (rest .entry)) (now (mem .entry)) (r .pc) (now (x .exit)) (now (rest .exit)) (now (mem .exit)) ⌝ }
+{
+    match w % 128 {
+        0b0110111 => compute::lui(w, x, pc),
+        0b0010111 => compute::auipc(w, x, pc),
+        0b1101111 => compute::jal(w, x, pc),
+        0b1100111 => compute::jalr(w, x, pc, s.pad),
+        0b1100011 => compute::branch(w, x, pc),
+        0b0000011 => access::load(w, x, pc, flat, s, mem, map),
+        0b0100011 => access::store(w, x, pc, flat, s, mem, map),
+        0b0010011 => compute::op_imm(w, x, pc),
+        0b0011011 => compute::op_imm_32(w, x, pc),
+        0b0110011 => compute::op(w, x, pc),
+        0b0111011 => compute::op_32(w, x, pc),
+        0b1110011 => access::shadow(w, x, rest, pc, s, mem, map),
+        _ => compute::undone(pc),
+    }
+}
