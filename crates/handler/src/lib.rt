@@ -63,6 +63,17 @@ fn held(address: u16, v: u64) -> u64
     v
 }
 
+// v at k, where an instruction writes.
+fn store(rest: &mut [u64; 20], k: usize, writes: bool, v: u64)
+    requires { ⌜ k < 20 ⌝ }
+    ensures { λ _. ⌜ now (rest .exit) ≡ pick writes (set (now (rest .entry)) k v) (now (rest .entry)) ⌝ }
+{
+    if writes {
+        rest[k] = v;
+        return;
+    }
+}
+
 // The instruction on the word at k. The operand is read before rd is written, which may be the same register.
 fn csr(
     x: &mut [u64; 32],
@@ -79,9 +90,8 @@ fn csr(
 {
     let old = held(address, rest[k]);
     let v = register::reg(x, rs1);
-    if csrs::writes(o, rs1) {
-        rest[k] = held(address, csrs::merged(o, old, v));
-    }
+    let new = held(address, csrs::merged(o, old, v));
+    store(rest, k, csrs::writes(o, rs1), new);
     register::put(x, rd, old);
 }
 
@@ -106,7 +116,7 @@ pub fn handle(w: u32, x: &mut [u64; 32], rest: &mut [u64; 20]) -> bool
     ensures { λ r. ⌜ ((pc ssp : ℕ) (s : Setting) (m map : List ℕ) → s .control .mode ≡ modeOf (getD (now (rest .entry)) 1 0)
         → Handles r (executeOf (decodeOf w) w (now (x .entry)) pc ssp s m map) (now (x .entry)) (now (rest .entry)) (nextOf pc) (now (x .exit)) (now (rest .exit))) ⌝ }
 {
-    match w % 32768 / 4096 * 128 + w % 128 {
+    match w / 4096 % 8 * 128 + w % 128 {
         0b001_1110011 => csr_word(w, x, rest, CsrOperation::Write),
         0b010_1110011 => csr_word(w, x, rest, CsrOperation::Set),
         0b011_1110011 => csr_word(w, x, rest, CsrOperation::Clear),
