@@ -13,13 +13,12 @@ use Rattle.word.specs.Row.{readOf, writeOf}
 use Rattle.isa.specs.declared.CsrOperation.{CsrOperation}
 use Rattle.isa.specs.declared.CsrSource.the-variants.{Register}
 use Rattle.page.specs.declared.Mode.{Mode}
-use Rattle.csr.specs.Row.{rowOf, fours, word}
+use Rattle.csr.specs.Row.{fours, word}
 use Rattle.rights.specs.Enable.{sseOf}
 use Rattle.effect.specs.Csrs.{csrOf, reachedOf, writesOf, mergedOf}
 use Rattle.effect.specs.Register.{regOf, putOf}
 use Rattle.bank.specs.Access.{shownOf, writtenOf}
 use Rattle.bank.specs.Setters.{storedOf, csrsOf}
-use Rattle.bank.specs.Words.{slotOf}
 use Rattle.bank.proofs.Slots.{stored-in}
 use Rattle.handler.specs.Handler.{Handled}
 use Rattle.handler.specs.Named.{Stands, namedOf, heldOf}

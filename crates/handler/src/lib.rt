@@ -31,7 +31,7 @@ enum Found {
     Nowhere,
 }
 
-// M's four are M's alone; S's are also M's. The mode is a number that any other than 1 and 3 makes U.
+// M's four are M's alone; S's are also M's. Any other number than 1 and 3 is U, so S is not tested as "not 0".
 fn slot(address: u16, mode: u64) -> Found
     ensures { λ r. ⌜ Finds r address (modeOf mode) ⌝ }
 {
@@ -63,7 +63,7 @@ fn held(address: u16, v: u64) -> u64
     v
 }
 
-// v at k, where an instruction writes.
+// v at k, where an instruction writes. A function of its own, since the proof of a branch that others follow on is longer.
 fn store(rest: &mut [u64; 20], k: usize, writes: bool, v: u64)
     requires { ⌜ k < 20 ⌝ }
     ensures { λ _. ⌜ now (rest .exit) ≡ pick writes (set (now (rest .entry)) k v) (now (rest .entry)) ⌝ }
@@ -86,7 +86,9 @@ fn csr(
 )
     requires { ⌜ k < 20 ⌝ }
     ensures { λ _. ⌜ (now (x .exit) ≡ putOf rd (heldOf address (getD (now (rest .entry)) k 0)) (now (x .entry)))
-        × (now (rest .exit) ≡ pick (writesOf o rs1) (set (now (rest .entry)) k (heldOf address (mergedOf o (heldOf address (getD (now (rest .entry)) k 0)) (regOf (now (x .entry)) rs1)))) (now (rest .entry))) ⌝ }
+        × (now (rest .exit) ≡ pick (writesOf o rs1)
+        (set (now (rest .entry)) k (heldOf address (mergedOf o (heldOf address (getD (now (rest .entry)) k 0)) (regOf (now (x .entry)) rs1))))
+        (now (rest .entry))) ⌝ }
 {
     let old = held(address, rest[k]);
     let v = register::reg(x, rs1);
@@ -97,7 +99,9 @@ fn csr(
 
 // A word whose opcode and funct3 are those of CSR operation o with a register.
 fn csr_word(w: u32, x: &mut [u64; 32], rest: &mut [u64; 20], o: CsrOperation) -> bool
-    ensures { λ r. ⌜ ((next : ℕ) (permitted : Bool) → Handles r (csrOf o (Register (bits w 19 15)) (bits w 11 7) (bits w 31 20) w (now (x .entry)) next (modeOf (getD (now (rest .entry)) 1 0)) permitted) (now (x .entry)) (now (rest .entry)) next (now (x .exit)) (now (rest .exit))) ⌝ }
+    ensures { λ r. ⌜ ((next : ℕ) (permitted : Bool)
+        → Handles r (csrOf o (Register (bits w 19 15)) (bits w 11 7) (bits w 31 20) w (now (x .entry)) next (modeOf (getD (now (rest .entry)) 1 0)) permitted)
+        (now (x .entry)) (now (rest .entry)) next (now (x .exit)) (now (rest .exit))) ⌝ }
 {
     let address = (w / 1048576 % 4096) as u16;
     match slot(address, rest[1]) {
@@ -110,11 +114,12 @@ fn csr_word(w: u32, x: &mut [u64; 32], rest: &mut [u64; 20], o: CsrOperation) ->
     }
 }
 
-// One word, by funct3 and opcode, on the registers x and the hart's twenty other words; whether it was done. No word that is done changes pc other
-// than to the next instruction.
+// One word, by funct3 and opcode, on the registers x and the hart's twenty other words; whether it was done. If so, pc goes on to the next
+// instruction, which is left to the caller.
 pub fn handle(w: u32, x: &mut [u64; 32], rest: &mut [u64; 20]) -> bool
     ensures { λ r. ⌜ ((pc ssp : ℕ) (s : Setting) (m map : List ℕ) → s .control .mode ≡ modeOf (getD (now (rest .entry)) 1 0)
-        → Handles r (executeOf (decodeOf w) w (now (x .entry)) pc ssp s m map) (now (x .entry)) (now (rest .entry)) (nextOf pc) (now (x .exit)) (now (rest .exit))) ⌝ }
+        → Handles r (executeOf (decodeOf w) w (now (x .entry)) pc ssp s m map)
+        (now (x .entry)) (now (rest .entry)) (nextOf pc) (now (x .exit)) (now (rest .exit))) ⌝ }
 {
     match w / 4096 % 8 * 128 + w % 128 {
         0b001_1110011 => csr_word(w, x, rest, CsrOperation::Write),

@@ -8,11 +8,11 @@ use Rattle.handler.proofs.held.Tie as tie
 
 returns : tie.Need-returns
 unfolding heldOf
-returns c = rw (eq-eqb _ _ (c .if1 .taken)) (omega arith)
+returns c = rw (eq-eqb _ 1 (c .if1 .taken)) (omega arith)
 
 returns-2 : tie.Need-returns-2
 unfolding heldOf
-returns-2 c = rw (ne-eqb _ _ (c .if1 .left)) (omega arith)
+returns-2 c = rw (ne-eqb _ 1 (c .if1 .left)) (omega arith)
 
 pub held-spec : {M : Type 1} → statement M
 held-spec = tie.close (tie.spec (λ c. search needs) returns returns-2)
