@@ -13,7 +13,7 @@ ghost use mathlib.Core.Path.{_≡_};
 ghost use Rattle.effect.specs.Csrs.{writesOf, mergedOf, fieldOf, operandOf, csrOf};
 
 // CSRRS and CSRRC with x0 or 0 do not write.
-fn writes(o: CsrOperation, field: u8) -> bool
+pub fn writes(o: CsrOperation, field: u8) -> bool
     ensures { λ r. ⌜ r ≡ writesOf o field ⌝ }
 {
     match o {
