@@ -18,7 +18,7 @@ use Rattle.bank.specs.Words.{slotOf}
 use Rattle.handler.specs.declared.Found.{Found}
 use Rattle.handler.specs.declared.Found.the-variants.{At, Nowhere}
 
--- what each of the eight addresses names; any other address is never asked for
+-- what each of the eight addresses names: 0x343 is what is left, and any other is never asked for
 abbrev pub handlers : Table Csr
 handlers =
     0x140 ⇒ Sscratch

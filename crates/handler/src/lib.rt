@@ -42,13 +42,11 @@ fn slot(address: u16, mode: u64) -> Found
         return Found::Nowhere;
     }
     if address / 4 == 0x50 {
-        if mode == 1 {
-            return Found::At(6 + (address % 4) as usize);
-        }
-        if mode == 3 {
-            return Found::At(6 + (address % 4) as usize);
-        }
-        return Found::Nowhere;
+        return match mode {
+            1 => Found::At(6 + (address % 4) as usize),
+            3 => Found::At(6 + (address % 4) as usize),
+            _ => Found::Nowhere,
+        };
     }
     Found::Nowhere
 }

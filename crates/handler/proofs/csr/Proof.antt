@@ -1,4 +1,7 @@
 -- `handler::csr` meets its contract: its calls, one after the other. Assumes nothing.
+use mathlib.Core.Path.{ap, _∙_}
+use Prim.Native.Nat.{ℕ}
+use Rattle.effect.specs.Register.{putOf}
 use borrow.Author.Needs.{needs}
 use Rattle.handler.proofs.csr.Statement.{statement}
 use Rattle.handler.proofs.csr.Tie as tie
@@ -8,7 +11,8 @@ returns c =
     let s = c .before .before in
     let h = s .before .before .before in
     let old = h .before .before .before .before .held .ensures in
-    (rw (c .put .ensures, old), rw (s .store .ensures, h .held2 .ensures, h .before .merged .ensures, h .before .before .reg .ensures, old, s .before .writes .ensures))
+    let a = h .before .before .before .before .before .before .args in
+    (c .put .ensures ∙ ap (λ (v : ℕ). putOf (a .rd) v (a .x .now)) old, rw (s .store .ensures, h .held2 .ensures, h .before .merged .ensures, h .before .before .reg .ensures, old, s .before .writes .ensures))
 
 pub csr-spec : {M : Type 1} → statement M
 csr-spec =

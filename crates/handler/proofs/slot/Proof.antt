@@ -13,11 +13,11 @@ returns c = rw (c .if2 .taken) (machine _ (c .before .if1 .taken))
 
 returns-3 : tie.Need-returns-3
 unfolding modeOf
-returns-3 c = rw (c .if4 .taken) (supervisor Supervisor _ refl (c .before .if3 .taken))
+returns-3 c = rw (c .match .keys1) (supervisor Supervisor _ refl (c .before .if3 .taken))
 
 returns-4 : tie.Need-returns-4
 unfolding modeOf
-returns-4 c = rw (c .if5 .taken) (supervisor Machine _ refl (c .before .before .if3 .taken))
+returns-4 c = rw (c .match .keys2) (supervisor Machine _ refl (c .before .if3 .taken))
 
 pub slot-spec : {M : Type 1} → statement M
 slot-spec =
@@ -29,9 +29,9 @@ slot-spec =
     (λ c. search needs)
     (λ c. search needs)
     (λ c. search needs)
+    (λ c. search needs)
+    (λ c. search needs)
     returns-3
-    (λ c. search needs)
-    (λ c. search needs)
     returns-4
     (λ c. search needs)
     (λ c. search needs))
