@@ -10,18 +10,21 @@ use Rattle.word.proofs.Choices.{first}
 use Rattle.isa.specs.declared.Access.the-variants.{Load, Store, Push, Pop}
 use Rattle.isa.specs.declared.Instruction.the-variants.{Memory}
 use Rattle.isa.specs.declared.Width.{Width}
-use Rattle.isa.specs.declared.Width.the-variants.{Double}
+use Rattle.isa.specs.declared.Width.the-variants.{Word, Double}
 use Rattle.page.specs.declared.Kind.the-variants as kind
 use Rattle.address.specs.Stack.{pushOf}
 use Rattle.place.specs.Place.{placeOf}
+use Rattle.place.specs.declared.Physical.{Physical}
 use Rattle.place.specs.declared.Place.{Place}
 use Rattle.place.specs.declared.Place.the-variants.{At, Fault}
-use Rattle.transfer.specs.Access.{doneOf, atOf, passedOf, accessOf}
+use Rattle.transfer.specs.Access.{readOf, doneOf, atOf, passedOf, accessOf}
 use Rattle.transfer.specs.declared.access.Gate.{Gate}
 use Rattle.transfer.specs.declared.access.Gate.the-variants.{Open, Off}
 use Rattle.effect.specs.Register.{regOf}
 use Rattle.effect.specs.declared.Setting.{Setting}
 use Rattle.execute.specs.Instruction.{nextOf, executeOf}
+use Rattle.execute.specs.Plan.{wordAt}
+use Rattle.execute.specs.declared.plan.Fetched.the-variants as fetched
 
 -- a load: its register
 pub load-parts : (n : Width) (sign : Bool) (p : Place) (rd a b ssp next : ℕ) (m : List ℕ)
@@ -48,6 +51,13 @@ pop-parts : (p : Place) (rd a b ssp next : ℕ) (m : List ℕ) → atOf Pop p rd
 unfolding atOf doneOf
 pop-parts (At q) rd a b ssp next m = refl
 pop-parts (Fault cause tval) rd a b ssp next m = refl
+
+-- a fetch: the word at its place, or the fault
+pub word-at : (p : Place) (q : Physical) (v : ℕ) (m : List ℕ) → p ≡ At q → v ≡ readOf m q Word → fetched.Word v ≡ wordAt p m
+word-at p q v m e f = rw (e, f)
+
+pub fault-at : (p : Place) (cause tval : ℕ) (m : List ℕ) → p ≡ Fault cause tval → fetched.Fault cause tval ≡ wordAt p m
+fault-at p cause tval m e = rw e
 
 -- while the active shadow enable is set, a push and a pop-check make their accesses
 module _ (word : ℕ) (x : List ℕ) (pc ssp : ℕ) (s : Setting) (m map : List ℕ) (on : s .shadow ≡ true) (r : ℕ) where

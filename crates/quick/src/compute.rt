@@ -44,7 +44,7 @@ pub fn wrote(x: &mut [u64; 32], rd: u8, v: u64, next: u64) -> Tried
     }
 }
 
-// To a target, with the link in rd: JAL, and a branch that is taken, whose rd is 0.
+// To a target, with the link in rd: JAL, JALR where no landing pad is expected, and a branch that is taken, whose rd is 0.
 fn jumped(x: &mut [u64; 32], rd: u8, link: u64, target: u64, pc: u64) -> Tried
     ensures { λ r. ⌜ ((rest m : List ℕ) → Does (r .done) (jalOf rd link target) (now (x .entry)) rest m (r .pc) (now (x .exit)) rest m) ⌝ }
 {

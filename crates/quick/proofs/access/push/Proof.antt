@@ -1,20 +1,20 @@
 -- `quick::access::push` meets its contract: a place, or its fault. Assumes nothing.
 use mathlib.Core.Path.{refl, sym, _∙_}
 use Rattle.place.proofs.Reach.{place-within, place-index}
-use Rattle.transfer.specs.Access.{atOf, doneOf}
-use Rattle.quick.proofs.Ways.{undone-does}
+use Rattle.transfer.specs.Access.{doneOf}
+use Rattle.quick.proofs.Ways.{placed, undone-does}
 use borrow.Author.Needs.{needs}
 use Rattle.quick.proofs.access.push.Statement.{statement}
 use Rattle.quick.proofs.access.push.Tie as tie
 
 returns : tie.Need-returns
-unfolding atOf doneOf
+unfolding doneOf
 returns c =
     let s = c .before .before .before in
     let at = s .before .before .before .before in
     let t = at .before .before in
     let top = t .before .difference .ensures in
-    λ x. rw (sym (rw top at (t .translate .ensures)) ∙ at .q .given .1) (c .sum .ensures, refl, rw top, rw (s .before .index .ensures) at (s .store .ensures))
+    λ x. placed _ _ _ _ _ _ _ _ _ _ _ _ _ _ _ (sym (rw top at (t .translate .ensures)) ∙ at .q .given .1) (c .sum .ensures, refl, rw top, rw (s .before .index .ensures) at (s .store .ensures))
 
 pub push-spec : {M : Type 1} → statement M
 push-spec =

@@ -1,18 +1,18 @@
 -- `quick::access::store_at` meets its contract: a place, or its fault. Assumes nothing.
 use mathlib.Core.Path.{refl, sym, _∙_}
 use Rattle.place.proofs.Reach.{place-within, place-index}
-use Rattle.transfer.specs.Access.{atOf, doneOf}
-use Rattle.quick.proofs.Ways.{undone-does}
+use Rattle.transfer.specs.Access.{doneOf}
+use Rattle.quick.proofs.Ways.{placed, undone-does}
 use borrow.Author.Needs.{needs}
 use Rattle.quick.proofs.access.store_at.Statement.{statement}
 use Rattle.quick.proofs.access.store_at.Tie as tie
 
 returns : tie.Need-returns
-unfolding atOf doneOf
+unfolding doneOf
 returns c =
     let s = c .before .before .before in
     let at = s .before .before .before .before in
-    λ x rest. rw (sym (at .before .before .quick-data .ensures) ∙ at .q .given .1) (c .sum .ensures, refl, refl, rw (s .before .index .ensures) at (s .store .ensures))
+    λ x rest. placed _ _ _ _ _ _ _ _ _ _ _ _ _ _ _ (sym (at .before .before .quick-data .ensures) ∙ at .q .given .1) (c .sum .ensures, refl, refl, rw (s .before .index .ensures) at (s .store .ensures))
 
 pub store-at-spec : {M : Type 1} → statement M
 store-at-spec =

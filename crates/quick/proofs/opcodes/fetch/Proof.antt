@@ -2,6 +2,7 @@
 use mathlib.Core.Path.{sym, _∙_}
 use Rattle.place.proofs.Reach.{place-within, place-index}
 use Rattle.execute.specs.Plan.{fetchedOf}
+use Rattle.quick.proofs.Parts.{word-at, fault-at}
 use borrow.Author.Needs.{needs}
 use Rattle.quick.proofs.opcodes.fetch.Statement.{statement}
 use Rattle.quick.proofs.opcodes.fetch.Tie as tie
@@ -9,12 +10,12 @@ use Rattle.quick.proofs.opcodes.fetch.Tie as tie
 returns : tie.Need-returns
 unfolding fetchedOf
 returns c =
-    rw (c .word .ensures, c .before .index .ensures, sym (c .before .before .before .before .before .quick-fetch .ensures) ∙ c .before .before .before .q .given .1)
+    word-at _ _ _ _ (sym (c .before .before .before .before .before .quick-fetch .ensures) ∙ c .before .before .before .q .given .1) (rw (c .before .index .ensures) at (c .word .ensures))
 
 returns-2 : tie.Need-returns-2
 unfolding fetchedOf
 returns-2 c =
-    rw (sym (c .before .before .before .quick-fetch .ensures) ∙ c .before .cause .given .1)
+    fault-at _ _ _ _ (sym (c .before .before .before .quick-fetch .ensures) ∙ c .before .cause .given .1)
 
 pub fetch-spec : {M : Type 1} → statement M
 fetch-spec =
