@@ -18,9 +18,10 @@ use Rattle.bank.proofs.Switches.{kept}
 use Rattle.hart.specs.Access.{csrWriteOf}
 use Rattle.hart.specs.Setters.{withPc, hartOf}
 use Rattle.hart.specs.Step.{changedOf, csrOf}
+use Rattle.hart.specs.Glide.{Straight}
 use Rattle.hart.specs.Words.{AreWords}
 use Rattle.hart.specs.declared.Hart.{Hart}
-use Rattle.hart.proofs.Worded.{stored-csr, still-words, behind-elp}
+use Rattle.hart.proofs.Worded.{stored-csr, still-words, still-straight, behind-elp}
 
 module _ (o : CsrOperation) (n : Csr) (v rd next : ℕ) (x rest : List ℕ) (w : AreWords rest) where
   -- what rd takes, and what a write leaves
@@ -41,6 +42,10 @@ module _ (o : CsrOperation) (n : Csr) (v rd next : ℕ) (x rest : List ℕ) (w :
   pub carried-words : (writes : Bool) → AreWords (after writes)
   carried-words true = still-words x rest w (slotOf n) new (behind-elp n)
   carried-words false = w
+
+  pub carried-straight : Straight rest → (writes : Bool) → Straight (after writes)
+  carried-straight st true = still-straight rest st (slotOf n) new (behind-elp n)
+  carried-straight st false = st
 
   -- a setting that does not depend on the CSR stays
   pub carried-setting : (writes : Bool) → (writes && switchesOf n) ≡ false

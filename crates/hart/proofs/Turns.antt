@@ -10,15 +10,11 @@ use Rattle.effect.specs.declared.Effect.{Effect}
 use Rattle.effect.specs.declared.Effect.the-variants.{Write, Jump, Pad, Store, Push, Pop, Swap, Whole, Trap}
 use Rattle.execute.specs.declared.Source.{Source}
 use Rattle.execute.specs.declared.Source.the-variants.{Fetch}
-use Rattle.hart.specs.Run.{Run, after, stayed, once, followed, runFrom}
+use Rattle.hart.specs.Run.{Run, after, stayed, once, followed, runFrom, Midway}
 use Rattle.transfer.specs.Commit.{memoryOf}
 use Rattle.hart.specs.Step.{Outcome, applyOf, trapsOf, causeOf, planOf, stepFrom}
 use Rattle.hart.specs.Trap.{trapOf}
 use Rattle.hart.specs.declared.Hart.{Hart}
-
--- what is left, run, gives the whole
-abbrev pub Midway : (whole : Run) (budget left : ℕ) → Source → Hart → List ℕ → List ℕ → Type 0
-Midway whole budget left source g m map = (left ≤ budget) × (whole ≡ after (budget - left) (runFrom source left g m map))
 
 pub start : (source : Source) (budget : ℕ) (h : Hart) (m map : List ℕ) → Midway (runFrom source budget h m map) budget budget source h m map
 start source budget h m map =

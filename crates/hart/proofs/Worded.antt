@@ -18,6 +18,7 @@ use Rattle.bank.specs.Words.{slotOf}
 use Rattle.bank.proofs.Twenty.{by-words}
 use Rattle.hart.specs.Setters.{withPc, withMode, withElp, withSsp, withCsrs, hartOf}
 use Rattle.hart.specs.Trap.{trapM, trapS}
+use Rattle.hart.specs.Glide.{Straight}
 use Rattle.hart.specs.Words.{flagOf, restOf, AreWords}
 use Rattle.hart.specs.declared.Hart.{Hart}
 
@@ -78,6 +79,19 @@ module _ (x rest : List ℕ) (w : AreWords rest) where
     rw length-set (w .0),
     by-words (λ (l : List ℕ). getD (set l 2 (flagOf y)) 2 0 ≤ 1) (λ a b c d e f g h i j k l m n o p q r s t. flag-small y) rest (w .0),
   )
+
+-- and where no landing pad is expected, none is
+pub still-straight : (rest : List ℕ) → Straight rest → (k v : ℕ) → 3 ≤ k → Straight (set rest k v)
+still-straight rest w k v le = (rw length-set (w .0), rw (getD-set-other rest k 2 v 0 (omega (arith, le))) (w .1))
+
+pub straight-words : (rest : List ℕ) → Straight rest → AreWords rest
+straight-words rest w = (w .0, omega (arith, w .1))
+
+pub words-straight : (rest : List ℕ) → AreWords rest → eqb (getD rest 2 0) 1 ≡ false → Straight rest
+words-straight rest w e = (w .0, zero-then (eqb-false (getD rest 2 0) 1 e))
+  where
+    zero-then : (getD rest 2 0 ≡ 1 → ⊥) → getD rest 2 0 ≡ 0
+    zero-then ne = omega (arith, ne, w .1)
 
 -- a CSR's word, stored
 module _ (x : List ℕ) (v a b c d e f g h i j k l m n o p q r s t : ℕ) where

@@ -6,3 +6,4 @@ pub mod Trap
 pub mod Return
 pub mod Step
 pub mod Run
+pub mod Glide

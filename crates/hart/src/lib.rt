@@ -4,6 +4,8 @@ use bank::Csrs;
 
 pub mod access;
 mod crossings;
+pub mod engine;
+mod glide;
 pub mod legal;
 pub mod returns;
 pub mod run;
