@@ -2,10 +2,10 @@
 -- Assumes nothing.
 use mathlib.Core.Bool.{Bool, true, false, _&&_}
 use mathlib.Core.List.{List}
-use mathlib.Core.Path.{_≡_, refl, sym, ap, _∙_, subst}
+use mathlib.Core.Path.{_≡_, refl, sym, subst}
 use Prim.Native.Nat.{ℕ}
 use native.Mathlib.Omega.{arith}
-use lib.ListN.{getD, set}
+use lib.ListN.{getD}
 use Rattle.decoder.specs.Decode.{decodeOf}
 use Rattle.transfer.specs.Commit.{memoryOf}
 use Rattle.effect.specs.declared.Effect.{Effect}
@@ -19,10 +19,8 @@ use Rattle.quick.specs.Quick.{Applied, Does}
 use Rattle.handler.specs.Handler.{Carried, Handled, Handles}
 use Rattle.hart.specs.Glide.{hartAt, saidOf, Straight, Fetches, Turned}
 use Rattle.hart.specs.Step.{wholeOf, applyOf, trapsOf, planOf}
-use Rattle.hart.specs.declared.Hart.{Hart}
-use Rattle.hart.specs.Setters.{withPc, withSsp}
-use Rattle.bank.specs.Setting.{settingOf}
-use Rattle.hart.proofs.Worded.{stored-ssp, still-straight, straight-words}
+use Rattle.hart.proofs.Applied.{said-ssp, moved}
+use Rattle.hart.proofs.Worded.{still-straight, straight-words}
 use Rattle.hart.proofs.Carried.{carried, carried-straight, carried-setting}
 
 and-off : (a b : Bool) → b ≡ false → (a && b) ≡ false
@@ -39,22 +37,15 @@ module _ (pc : ℕ) (x rest m : List ℕ) (st : Straight rest) where
       × Straight rest'
       × (saidOf rest' ≡ saidOf rest)
 
-  -- ssp moved
-  moved-said : (top : ℕ) → saidOf (set rest 3 top) ≡ saidOf rest
-  moved-said top = ap (λ (h : Hart). settingOf (h .mode) (h .csrs)) (stored-ssp x rest (straight-words rest st) top)
-
-  moved : (top next : ℕ) → withPc next (withSsp top (hartAt pc x rest)) ≡ hartAt next x (set rest 3 top)
-  moved top next = ap (λ (h : Hart). withPc next h) (sym (stored-ssp x rest (straight-words rest st) top))
-
   applied : (e : Effect) (pc' : ℕ) (x' rest' m' : List ℕ) → Applied e x rest m pc' x' rest' m' → Did e pc' x' rest' m'
   applied (Write rd v next) pc' x' rest' m' a = rw (a .0, a .1, a .2, a .3) (refl, refl, refl, st, refl)
   applied (Jump rd link next pad) pc' x' rest' m' a = rw (a .0, a .1, a .2, a .3, a .4) (refl, rw (st .1), refl, st, refl)
   applied (Pad next) pc' x' rest' m' a = absurd a
   applied (Store q w v next) pc' x' rest' m' a = rw (a .0, a .1, a .2, a .3) (refl, refl, refl, st, refl)
   applied (Push q v top next) pc' x' rest' m' a =
-      rw (a .0, a .1, a .2, a .3) (refl, moved top next, refl, still-straight rest st 3 top (omega arith), moved-said top)
+      rw (a .0, a .1, a .2, a .3) (refl, moved x rest (straight-words rest st) top pc next, refl, still-straight rest st 3 top (omega arith), said-ssp x rest (straight-words rest st) top)
   applied (Pop top next) pc' x' rest' m' a =
-      rw (a .0, a .1, a .2, a .3) (refl, moved top next, refl, still-straight rest st 3 top (omega arith), moved-said top)
+      rw (a .0, a .1, a .2, a .3) (refl, moved x rest (straight-words rest st) top pc next, refl, still-straight rest st 3 top (omega arith), said-ssp x rest (straight-words rest st) top)
   applied (Swap rd old q w v next) pc' x' rest' m' a = absurd a
   applied (Whole k) pc' x' rest' m' a = absurd a
   applied (Trap cause tval) pc' x' rest' m' a = absurd a

@@ -3,6 +3,7 @@ pub mod Written
 pub mod Kept
 pub mod Worded
 pub mod Carried
+pub mod Applied
 pub mod Gliding
 pub mod Turns
 pub mod Rows

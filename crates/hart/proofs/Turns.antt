@@ -10,11 +10,13 @@ use Rattle.effect.specs.declared.Effect.{Effect}
 use Rattle.effect.specs.declared.Effect.the-variants.{Write, Jump, Pad, Store, Push, Pop, Swap, Whole, Trap}
 use Rattle.execute.specs.declared.Source.{Source}
 use Rattle.execute.specs.declared.Source.the-variants.{Fetch}
-use Rattle.hart.specs.Run.{Run, after, stayed, once, followed, runFrom, Midway}
+use Rattle.hart.specs.Run.{Run, after, stayed, once, followed, runFrom, Midway, ranOf, toldOf}
 use Rattle.transfer.specs.Commit.{memoryOf}
 use Rattle.hart.specs.Step.{Outcome, applyOf, trapsOf, causeOf, planOf, stepFrom}
 use Rattle.hart.specs.Trap.{trapOf}
 use Rattle.hart.specs.declared.Hart.{Hart}
+use Rattle.hart.specs.declared.engine.Told.{Told}
+use Rattle.hart.specs.declared.run.Ran.{Ran}
 
 pub start : (source : Source) (budget : ℕ) (h : Hart) (m map : List ℕ) → Midway (runFrom source budget h m map) budget budget source h m map
 start source budget h m map =
@@ -57,6 +59,14 @@ module _ (whole : Run) (budget left : ℕ) (source : Source) (g : Hart) (m map :
       let k : budget - 0 + 0 ≡ budget = omega arith in
       now .1 ∙ ap (λ (n : ℕ). after (budget - n) (runFrom source n g m map)) z ∙ rw k
 
+-- what was taken of what was left, was taken of the whole
+pub joined : (whole : Run) (budget left less : ℕ) (source : Source) (g h : Hart) (m n map : List ℕ)
+    → Midway whole budget left source g m map → Midway (runFrom source left g m map) left less source h n map
+    → Midway whole budget less source h n map
+joined whole budget left less source g h m n map a b =
+    let k : budget - left + (left - less) ≡ budget - less = omega (arith, a .0, b .0) in
+    (omega (arith, a .0, b .0), a .1 ∙ ap (λ (r : Run). after (budget - left) r) (b .1) ∙ rw (← add-assoc, k))
+
 -- a run of one step is that step
 
 followed-once : (t : Bool) (o : Outcome) → o .trapped ≡ t → (o .trapped ≡ false → o .cause ≡ 0)
@@ -79,3 +89,8 @@ pub one-step : (source : Source) (h : Hart) (m map : List ℕ) → runFrom sourc
 unfolding runFrom stepFrom
 one-step source h m map =
     followed-once (stepFrom source h m map .trapped) (stepFrom source h m map) refl (no-cause (planOf source h m map))
+
+-- a run as it is handed back, from its hart and its numbers
+pub ran : (run : Run) (h : Hart) (t : Told) → h ≡ run .hart → t ≡ toldOf run
+    → _≡_ {A = Ran} (record { hart = h; count = t .count; trapped = t .trapped; cause = t .cause }) (ranOf run)
+ran run h t e f = rw (e, f)
