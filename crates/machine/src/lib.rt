@@ -12,6 +12,9 @@ ghost use lib.Dec.{ltb};
 ghost use Rattle.word.specs.Choice.{pick};
 ghost use Rattle.machine.specs.Call.{refusalOf, runRefusalOf, stepFromCall, stepCall, stepWordCall, runCall};
 
+// Refusals of a hart as words.
+pub mod words;
+
 // What a call answers. refusal is 0 where the call was taken, else document 01's number, and then the hart is the one handed in
 // and count is 0. cause is the last trap's, and 0 where there was none.
 pub struct Answer {

@@ -3,45 +3,24 @@
 -- Assumes nothing.
 use mathlib.Core.Bool.{Bool, true, false}
 use mathlib.Core.List.{List, [], _∷_}
-use mathlib.Core.Path.{_≡_, refl, sym, ap, _∙_}
-use Prim.Native.Nat.{ℕ, zero, suc, _+_, _≤_}
-use native.Mathlib.Omega.{arith}
-use borrow.Author.Tests.{ltb-false, eqb-true, eqb-false}
+use mathlib.Core.Path.{_≡_, refl}
+use Prim.Native.Nat.{ℕ}
+use borrow.Author.Tests.{ltb-false}
 use lib.Dec.{eqb}
-use lib.ListN.{length, getD, drop, drop-of-length-le}
-use lib.Seq.{drop-cons}
+use lib.ListN.{length, getD}
 use Rattle.execute.specs.declared.Source.the-variants.{Fetch, Given}
 use Rattle.hart.specs.Run.{Run, once, runOf}
 use Rattle.hart.specs.Step.{stepFrom}
 use Rattle.hart.specs.Setters.{hartOf}
 use Rattle.machine.specs.Call.{calledOf, refusalOf, runRefusalOf, stepFromCall, runCall}
 use Rattle.sporhulma.specs.Boundary.{Left, leftBy, leftOf, stepLeft, stepWordLeft, runLeft}
-use Rattle.sporhulma.specs.Words.{flagOf, restOf, noHart}
-
--- n words of a list, from the one at i on
-abbrev wordsFrom : (n i : ℕ) → List ℕ → List ℕ
-wordsFrom zero i w = []
-wordsFrom (suc n) i w = getD w i 0 ∷ wordsFrom n (suc i) w
-
-all-words : (n i : ℕ) (w : List ℕ) → length w ≡ i + n → wordsFrom n i w ≡ drop i w
-all-words zero i w e = sym (drop-of-length-le w {i = i} (omega (arith, e)))
-all-words (suc n) i w e =
-    ap (λ (t : List ℕ). getD w i 0 ∷ t) (all-words n (suc i) w (omega (arith, e))) ∙ sym (drop-cons w i 0 (omega (arith, e)))
-
--- a word that is 0 or 1, as a flag and back
-flag-back : (e : ℕ) → e ≤ 1 → flagOf (eqb e 1) ≡ e
-flag-back e l = go (eqb e 1) refl
-  where
-    go : (b : Bool) → eqb e 1 ≡ b → flagOf b ≡ e
-    go true q = sym (eqb-true e 1 q)
-    go false q = zero-then (eqb-false e 1 q)
-      where
-        zero-then : (e ≡ 1 → ⊥) → 0 ≡ e
-        zero-then ne = omega (arith, ne, l)
+use Rattle.hart.specs.Words.{restOf}
+use Rattle.hart.proofs.Worded.{same-words}
+use Rattle.sporhulma.specs.Words.{noHart}
 
 -- the twenty words of a hart, written back
 pub words-back : (x rest : List ℕ) → length rest ≡ 20 → noHart rest ≡ false → restOf (hartOf x rest) ≡ rest
-words-back x rest n e = rw (flag-back (getD rest 2 0) (ltb-false 1 (getD rest 2 0) e)) (all-words 20 0 rest n)
+words-back x rest n e = same-words x rest (n, ltb-false 1 (getD rest 2 0) e)
 
 -- what a call leaves where it changes nothing
 abbrev pub Kept : (x rest m : List ℕ) → Left → Type 0

@@ -1,3 +1,4 @@
 -- The laws of the boundary.
-pub mod Handed
 pub mod Kept
+pub mod Answered
+pub mod One

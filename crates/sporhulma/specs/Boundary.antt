@@ -4,9 +4,12 @@
 use mathlib.Core.List.{List, [], _∷_}
 use Prim.Native.Nat.{ℕ}
 use Rattle.word.specs.Choice.{pick}
+use Rattle.execute.specs.declared.Source.{Source}
+use Rattle.hart.specs.Run.{runFrom}
 use Rattle.hart.specs.Setters.{hartOf}
-use Rattle.machine.specs.Call.{Called, stepCall, stepWordCall, runCall}
-use Rattle.sporhulma.specs.Words.{flagOf, restOf, noHart}
+use Rattle.hart.specs.Words.{flagOf, restOf}
+use Rattle.machine.specs.Call.{Called, runRefusalOf, calledOf, stepCall, stepWordCall, runCall}
+use Rattle.sporhulma.specs.Words.{noHart}
 
 -- what a call leaves: its result, the hart's words, the three words of its answer (count, trapped, cause), and memory
 pub record Left : Type 0 where
@@ -42,3 +45,8 @@ stepWordLeft word x rest m map = leftOf x rest m (stepWordCall word (hartOf x re
 
 unfoldable pub runLeft : (budget : ℕ) → (x rest m map : List ℕ) → Left
 runLeft budget x rest m map = leftOf x rest m (runCall budget (hartOf x rest) m map)
+
+-- all three at once: a run whose first word comes from a source (`Rattle.sporhulma.proofs.One` says that each is one)
+unfoldable pub leftFrom : Source → (budget : ℕ) → (x rest m map : List ℕ) → Left
+leftFrom source budget x rest m map =
+    leftOf x rest m (calledOf (runRefusalOf budget (hartOf x rest) m map) (hartOf x rest) m (runFrom source budget (hartOf x rest) m map))

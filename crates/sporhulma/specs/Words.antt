@@ -1,41 +1,9 @@
--- A hart as words: the thirty-two registers x, and rest, the twenty other words in the order of include/sporhulma.h. The way from
--- words to a hart is `hartOf` of crate `hart`, since only its setters' file makes one.
+-- Words that are no hart's.
 use mathlib.Core.Bool.{Bool}
-use mathlib.Core.List.{List, [], _∷_}
+use mathlib.Core.List.{List}
 use Prim.Native.Nat.{ℕ}
 use lib.Dec.{ltb}
 use lib.ListN.{getD}
-use Rattle.word.specs.Choice.{pick}
-use Rattle.hart.specs.declared.Hart.{Hart}
-
--- true is 1
-abbrev pub flagOf : Bool → ℕ
-flagOf b = pick b 1 0
-
--- pc, mode, elp, ssp and the CSRs
-abbrev pub restOf : Hart → List ℕ
-restOf h =
-    h .pc
-    ∷ h .mode
-    ∷ flagOf (h .elp)
-    ∷ h .ssp
-    ∷ h .csrs .stvec
-    ∷ h .csrs .senvcfg
-    ∷ h .csrs .sscratch
-    ∷ h .csrs .sepc
-    ∷ h .csrs .scause
-    ∷ h .csrs .stval
-    ∷ h .csrs .satp
-    ∷ h .csrs .mstatus
-    ∷ h .csrs .medeleg
-    ∷ h .csrs .mtvec
-    ∷ h .csrs .menvcfg
-    ∷ h .csrs .mscratch
-    ∷ h .csrs .mepc
-    ∷ h .csrs .mcause
-    ∷ h .csrs .mtval
-    ∷ h .csrs .mseccfg
-    ∷ []
 
 -- elp is neither 0 nor 1: no hart holds that
 abbrev pub noHart : (rest : List ℕ) → Bool
