@@ -7,14 +7,14 @@ pub enum Found {
     Absent,
 }
 
-// The leaf word of the first entry that has this page number.
+// The leaf word of the first entry that has this page number. i is where that word stands, so that the loop asks one thing of it.
 pub fn lookup(map: &[u64], page: u64) -> Found
     ensures { λ r. ⌜ r ≡ lookupOf (now (map .entry)) page ⌝ }
 {
-    let mut i = 0;
-    while 2 <= map.len() - i {
-        if map[i] == page {
-            return Found::Leaf(map[i + 1]);
+    let mut i = 1;
+    while i < map.len() {
+        if map[i - 1] == page {
+            return Found::Leaf(map[i]);
         }
         i = i + 2;
     }

@@ -1,6 +1,6 @@
 -- `page::map::lookup` meets its contract: the entries from word i on answer for the map. Assumes nothing.
 use mathlib.Core.Path.{_≡_, refl, sym, _∙_}
-use Prim.Native.Nat.{_-_, _≤_}
+use Prim.Native.Nat.{_+_, _-_, _≤_}
 use native.Mathlib.Omega.{arith}
 use borrow.Author.Needs.{needs}
 use lib.ListN.{length, drop}
@@ -12,20 +12,27 @@ use Rattle.page.proofs.map.lookup.Reads as reads
 use Rattle.page.proofs.map.lookup.Lts as lts
 
 abbrev Inv-loop : tie.InvT-loop
-Inv-loop map page i₀ i = (i ≤ length map) × (lookupOf map page ≡ lookupOf (drop i map) page)
+Inv-loop map page i₀ i = (1 ≤ i) × (i - 1 ≤ length map) × (lookupOf map page ≡ lookupOf (drop (i - 1) map) page)
 
 abbrev μ-loop : tie.MeasureT-loop
-μ-loop map page i₀ i = length map - i
+μ-loop map page i₀ i = length map + 1 - i
 
 returns : tie.Need-returns Inv-loop μ-loop
 returns c =
     let l = c .before .before .before .before .loop in
-    sym (l .inv .1 ∙ lookup-hit _ (l .i) _ (omega arith) (c .before .if1 .taken))
+    let a = c .before .before .before .before .before .args in
+    let e : l .i - 1 + 1 ≡ l .i = omega (arith, l .inv .0) in
+    sym (l .inv .2 ∙ rw e at (lookup-hit (a .map .now) (l .i - 1) (a .page) (omega (arith, l .inv .0)) (c .before .if1 .taken)))
 
 loop-again : tie.Need-loop-again Inv-loop μ-loop
 loop-again c =
     let l = c .before .before .before .loop in
-    (omega arith, l .inv .1 ∙ lookup-miss _ (l .i) _ (omega arith) (c .if1 .left))
+    let a = c .before .before .before .before .args in
+    let e : l .i - 1 + 2 ≡ l .i + 2 - 1 = omega (arith, l .inv .0) in
+    (omega arith, omega (arith, l .inv .0), l .inv .2 ∙ rw e at (lookup-miss (a .map .now) (l .i - 1) (a .page) (omega (arith, l .inv .0)) (c .if1 .left)))
+
+returns-2 : tie.Need-returns-2 Inv-loop μ-loop
+returns-2 c = let l = c .before .loop in sym (l .inv .2 ∙ lookup-end _ (l .i - 1) _ (omega (arith, l .inv .0)))
 
 pub lookup-spec : {M : Type 1} → statement M
 lookup-spec =
@@ -33,8 +40,7 @@ lookup-spec =
     (tie.spec
     Inv-loop
     μ-loop
-    (λ c. (omega arith, refl))
-    (λ c. search needs)
+    (λ c. (omega arith, omega arith, refl))
     (λ c. search needs)
     (λ c. search needs)
     (λ c. search needs)
@@ -44,4 +50,4 @@ lookup-spec =
     (λ c. search needs)
     (λ c. search needs)
     loop-again
-    (λ c. sym (c .before .loop .inv .1 ∙ lookup-end _ (c .before .loop .i) _ (omega arith))))
+    returns-2)
