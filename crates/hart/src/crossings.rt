@@ -79,7 +79,12 @@ pub fn mret(w: &mut [u64; 20]) -> u64
 {
     let m = w[11];
     let to = w[16];
-    enter(w, returns::mpp_mode(m), m / 0x200_0000_0000 % 2 == 1, returns::leave_m(m));
+    enter(
+        w,
+        returns::mpp_mode(m),
+        m / 0x200_0000_0000 % 2 == 1,
+        returns::leave_m(m),
+    );
     to
 }
 
@@ -91,6 +96,11 @@ pub fn sret(w: &mut [u64; 20]) -> u64
 {
     let m = w[11];
     let to = w[7];
-    enter(w, returns::spp_mode(m), m / 0x80_0000 % 2 == 1, returns::leave_s(m));
+    enter(
+        w,
+        returns::spp_mode(m),
+        m / 0x80_0000 % 2 == 1,
+        returns::leave_s(m),
+    );
     to
 }

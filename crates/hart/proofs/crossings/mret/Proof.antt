@@ -23,8 +23,7 @@ returns c =
     let w : List ℕ = st .args .w .now in
     let m : ℕ = getD w 11 0 in
     let elp : Bool = padOf (mppMode m) (getD w 14 0) (getD w 5 0) (getD w 19 0) && statusOf m .mpelp in
-    rw (c .enter .ensures, c .before .leave-m .ensures, c .before .before .mpp-mode .ensures)
-    (
+    rw (c .enter .ensures, c .before .leave-m .ensures, c .before .before .mpp-mode .ensures) (
       (λ (pc : ℕ) (x : List ℕ). ap (λ (h : Hart). withPc (getD w 16 0) h) (returned x w (st .pre) elp (numberOf (mppMode m)) (leaveM m))),
       returned-words w w (st .pre) elp (numberOf (mppMode m)) (leaveM m),
     )
