@@ -1,7 +1,6 @@
 -- `hart::glide::instruction` meets its contract: the quick way, a handler's CSR instruction, or nothing. Assumes nothing.
-use mathlib.Core.Bool.{true, false}
 use mathlib.Core.List.{List}
-use mathlib.Core.Path.{_≡_, refl, _∙_}
+use mathlib.Core.Path.{_≡_, refl}
 use Prim.Native.Nat.{ℕ}
 use lib.ListN.{getD}
 use Rattle.bank.specs.Setting.{settingOf}

@@ -4,7 +4,6 @@ use mathlib.Core.List.{List}
 use Prim.Native.Nat.{ℕ}
 use Rattle.hart.specs.Run.{Run, runFrom}
 use Rattle.hart.specs.Setters.{hartOf}
-use Rattle.hart.specs.Words.{restOf}
 use Rattle.hart.specs.declared.Hart.{Hart}
 use Rattle.hart.proofs.Turns.{ran}
 use Rattle.hart.proofs.Worded.{same-hart, are-words}
