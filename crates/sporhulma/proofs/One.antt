@@ -13,7 +13,7 @@ use Rattle.hart.specs.Run.{runFrom}
 use Rattle.hart.specs.Setters.{hartOf}
 use Rattle.hart.specs.declared.Hart.{Hart}
 use Rattle.hart.proofs.Turns.{one-step}
-use Rattle.machine.specs.Call.{Called, refusalOf, runRefusalOf, calledOf, stepFromCall, runCall}
+use Rattle.machine.specs.Call.{refusalOf, runRefusalOf, calledOf, stepFromCall, runCall}
 use Rattle.sporhulma.specs.Boundary.{leftOf, stepLeft, stepWordLeft, runLeft, leftFrom}
 
 none-more : (n : ℕ) → pick (eqb n 0) 0 n ≡ n

@@ -1,6 +1,6 @@
 -- `sporhulma::call` meets its contract: words that are no hart and a hart that a refusal applies to are refused, else the run's words. Assumes nothing.
 use borrow.Author.Tests.{ne-eqb, ltb-false}
-use mathlib.Core.Path.{_≡_, refl, sym, _∙_}
+use mathlib.Core.Path.{refl, sym, _∙_}
 use Rattle.hart.specs.Run.{Run, runFrom}
 use Rattle.hart.specs.Setters.{hartOf}
 use Rattle.machine.proofs.Accepted.{small, run-no-refusal}
