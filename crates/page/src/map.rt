@@ -7,16 +7,26 @@ pub enum Found {
     Absent,
 }
 
-// The leaf word of the first entry that has this page number. i is where that word stands, so that the loop asks one thing of it.
+// The leaf word of the first entry that has this page number. i is where an entry's leaf word stands. A turn of the loop reads two entries: with one,
+// it is so short that its speed hangs on where the compiler puts it (docs/SPEED.md).
 pub fn lookup(map: &[u64], page: u64) -> Found
     ensures { λ r. ⌜ r ≡ lookupOf (now (map .entry)) page ⌝ }
 {
     let mut i = 1;
-    while i < map.len() {
+    while i + 2 < map.len() {
         if map[i - 1] == page {
             return Found::Leaf(map[i]);
         }
-        i = i + 2;
+        if map[i + 1] == page {
+            return Found::Leaf(map[i + 2]);
+        }
+        i = i + 4;
+    }
+    if map.len() <= i {
+        return Found::Absent;
+    }
+    if map[i - 1] == page {
+        return Found::Leaf(map[i]);
     }
     Found::Absent
 }
