@@ -18,6 +18,7 @@ FACTS = re.compile(
             r"computed as far as they go, the two types (?:first )?differ",
             r"expected type `.*(?:\n.*)*?but this has type",
             r"the goal does not follow from what it read",
+            r"what it leaves must be a path whose two ends are equal",
             r"`search`: no proof of",
             r"it is not proved that",
         ]
