@@ -19,6 +19,7 @@ FACTS = re.compile(
             r"expected type `.*(?:\n.*)*?but this has type",
             r"the goal does not follow from what it read",
             r"what it leaves must be a path whose two ends are equal",
+            r"`cc` met a bound of its own before the equations had joined",
             r"`search`: no proof of",
             r"it is not proved that",
         ]
