@@ -48,6 +48,14 @@ class Outcome:
     passes: bool
     reason: str
 
+    def short(self, most=300):
+        """The reason in a line: where the two types differ once they are computed, if the prover says so, or else its first line. The
+        prover's terms can run to thousands of characters, and the log has them."""
+        first, *rest = self.reason.split("\n")
+        computed = [line.strip() for line in rest if line.startswith("  computed as far as they go")]
+        line = " ".join([first.split(": `")[0] + ":", *computed[:1]]) if computed else first
+        return line if len(line) <= most else line[:most] + " .."
+
 
 def complaints(log):
     """Of each complaint its file, as the crate names it, its place and its text."""
