@@ -105,7 +105,7 @@ fn word_mut<'a>(hart: &'a mut Hart, name: &str) -> Result<&'a mut u64, String> {
 }
 
 fn read_row(case: &mut Case, address: u64, digits: &str) -> Result<(), String> {
-    if !digits.is_ascii() || !digits.len().is_multiple_of(2) {
+    if !digits.is_ascii() || digits.len() % 2 != 0 {
         return Err(format!(
             "'{digits}': right are two hexadecimal digits for each byte"
         ));

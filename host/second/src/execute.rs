@@ -50,7 +50,7 @@ pub fn execute(h: &mut Hart, mem: &mut [u8], map: &[u64], word: u32) -> Result<(
 
 /// Goes to `target` and leaves the return address in `rd`; from a misaligned target neither.
 fn jump(h: &mut Hart, rd: u8, target: u64) -> Result<(), Trap> {
-    if !target.is_multiple_of(4) {
+    if target % 4 != 0 {
         return Err(Trap {
             cause: INSTRUCTION_MISALIGNED,
             tval: target,

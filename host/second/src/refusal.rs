@@ -63,13 +63,15 @@ fn masking_is_possible(value: u64, fields: u64) -> bool {
 }
 
 fn memory_fits(mem: &[u8]) -> bool {
-    !mem.is_empty() && mem.len().is_multiple_of(PAGE_BYTES) && mem.len() <= MOST_MEMORY
+    !mem.is_empty() && mem.len() % PAGE_BYTES == 0 && mem.len() <= MOST_MEMORY
 }
 
 fn map_is_well_formed(map: &[u64]) -> bool {
-    let (pages, odd_word) = map.as_chunks::<2>();
-    odd_word.is_empty()
+    let numbers = || map.iter().step_by(2);
+    map.len() % 2 == 0
         && map.len() <= MOST_MAP_WORDS
-        && pages.iter().all(|page| page[0] < PAGE_NUMBERS)
-        && pages.windows(2).all(|pair| pair[0][0] < pair[1][0])
+        && numbers().all(|&number| number < PAGE_NUMBERS)
+        && numbers()
+            .zip(numbers().skip(1))
+            .all(|(one, next)| one < next)
 }

@@ -100,7 +100,7 @@ pub fn translate(
         cause,
         tval: address,
     };
-    if !address.is_multiple_of(width.bytes()) {
+    if address % width.bytes() != 0 {
         return Err(trap(access.misaligned()));
     }
     if access.is_shadow() && !paged {
@@ -167,9 +167,15 @@ fn sv39(h: &Hart, map: &[u64], mode: u64, access: Access, address: u64) -> Resul
 
 /// Step 5: the entry of this page. The page numbers of the map strictly rise.
 fn find(map: &[u64], page: u64) -> Option<u64> {
-    let (pages, _) = map.as_chunks::<2>();
-    let found = pages.binary_search_by_key(&page, |entry| entry[0]).ok()?;
-    Some(pages[found][1])
+    let mut rest = map;
+    while rest.len() >= 4 {
+        let (low, high) = rest.split_at(rest.len() / 4 * 2);
+        rest = if high[0] <= page { high } else { low };
+    }
+    match rest {
+        [number, entry, ..] if *number == page => Some(*entry),
+        _ => None,
+    }
 }
 
 /// Step 5: whether the entry can be used at all.

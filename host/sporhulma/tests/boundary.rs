@@ -1,8 +1,8 @@
 //! The boundary as callers see it: from Rust through the wrapper, and from C through the header.
 
+use programs::{c_compiler, started};
 use sporhulma::{family, run, step, step_word, word, Answer, Hart, BASE};
 use std::path::{Path, PathBuf};
-use std::process::Command;
 
 /// addi a0, zero, 42
 const ADDI: u32 = 0x02A0_0513;
@@ -88,7 +88,7 @@ fn a_word_has_its_family() {
 fn the_header_serves_c() {
     let root = Path::new(env!("CARGO_MANIFEST_DIR")).join("../..");
     let program = PathBuf::from(env!("CARGO_TARGET_TMPDIR")).join("step");
-    let built = Command::new("cc")
+    let built = c_compiler()
         .args(["-Wall", "-Wextra", "-Werror", "-pedantic", "-std=c11", "-I"])
         .arg(root.join("include"))
         .arg(root.join("examples/c/step.c"))
@@ -96,13 +96,13 @@ fn the_header_serves_c() {
         .arg("-o")
         .arg(&program)
         .output()
-        .expect("cc starts");
+        .expect("the C compiler starts");
     assert!(
         built.status.success(),
         "{}",
         String::from_utf8_lossy(&built.stderr)
     );
-    let ran = Command::new(&program).output().expect("the program starts");
+    let ran = started(&program).output().expect("the program starts");
     let told = "refusal 0, count 1, a0 42, pc 0x80000004\nrefusal 1, count 0, pc 0x80000004\n";
     assert_eq!(String::from_utf8_lossy(&ran.stdout), told);
 }

@@ -66,7 +66,7 @@ impl Desk {
     }
 
     pub fn command(&self, arguments: &[&str]) -> Command {
-        let mut command = Command::new(env!("CARGO_BIN_EXE_desk"));
+        let mut command = programs::started(env!("CARGO_BIN_EXE_desk"));
         command
             .args(arguments)
             .current_dir(&self.folder)
