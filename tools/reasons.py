@@ -49,11 +49,12 @@ class Outcome:
     reason: str
 
     def short(self, most=300):
-        """The reason in a line: where the two types differ once they are computed, if the prover says so, or else its first line. The
-        prover's terms can run to thousands of characters, and the log has them."""
+        """The reason in a line: where the two types differ once they are computed, if the prover says so, or else the line that says
+        what does not hold. The prover's terms can run to thousands of characters, and the log has them."""
         first, *rest = self.reason.split("\n")
-        computed = [line.strip() for line in rest if line.startswith("  computed as far as they go")]
-        line = " ".join([first.split(": `")[0] + ":", *computed[:1]]) if computed else first
+        computed = [line for line in rest if line.startswith("  computed as far as they go")]
+        telling = computed or ([] if FACTS.search(first) else [line for line in rest if FACTS.search(line)])
+        line = f"{first.split(': `')[0]}: {telling[0].strip()}" if telling else first
         return line if len(line) <= most else line[:most] + " .."
 
 
