@@ -1,77 +1,65 @@
 // Runs the files of cases and prints a line for each case, and the counts.
 //
-// A file of another kind of case gets a line in `main`, a variant of `Subject`, and a module with a `judge`
-// of its own.
-ghost use mathlib.Core.Path.{_≡_};
+// A file of another kind of case gets a line in `main`, with a letter, which gets an arm in `acts::subject`, and a module with a
+// `run` of its own (crates `rules` and `acts`).
 ghost use Prim.Native.Nat.{_≤_};
 ghost use lib.ListN.{length};
 ghost use Rattle.lines.specs.Most.{most};
+use acts::subject;
+use lines::file;
+use lines::file::End;
 use lines::line;
+use lines::line::Fault;
 use lines::line::Line;
 use lines::line::MOST;
 use lines::report;
 use lines::report::Counts;
-use lines::report::Fault;
+use lines::row;
 
-// Loads and stores.
-mod bytes;
 // Steps and runs: the public calls.
 mod call;
-// The content of a memory.
-mod content;
-// Instruction words.
-mod decode;
-// A page map.
-mod entries;
-// Pointer masking alone.
-mod mask;
-// CSRs, refusal 1, traps and returns: what is done to a hart.
-mod operation;
-// From address to byte.
-mod places;
-// Refusals 2 and 3.
-mod refused;
-// The numbers of a hart.
-mod state;
-// The width that a number of bytes names.
-mod width;
 
-// What the cases of a file are about.
-enum Subject {
-    Decode,
-    Mask,
-    Place,
-    Bytes,
-    Refused,
-    Hart,
-    Call,
+// Runs a case: puts what came of it into a row of zeros, and answers how many numbers these are. The wanted numbers stand in their
+// row already; a call adds to them.
+fn came(
+    letter: u8,
+    given: &[u64],
+    right: &[u64],
+    wanted: &mut [u64; MOST],
+    got: &mut [u64; MOST],
+) -> usize
+    ensures { λ r. ⌜ r ≤ most ⌝ }
+{
+    if letter == b'C' {
+        return call::run(given, right, wanted, got);
+    }
+    subject::came(letter, given, got)
 }
 
-// 262,144 zeros, for a whole file.
-fn buffer() -> [u8; 262144]
-    ensures { λ r. ⌜ 262144 ≡ length r ⌝ }
+// A case with its given and its wanted numbers.
+fn tried(letter: u8, c: Counts, s: &[u8], at: Line, given: &[u64], right: &[u64]) -> Counts
+    requires { ⌜ (at .equals ≤ length (now s)) × (at .text ≤ length (now s)) ⌝ }
 {
-    [0; 262144]
+    let mut wanted = [0u64; MOST];
+    let mut got = [0u64; MOST];
+    row::copy(&mut wanted, 0, right);
+    let count = came(letter, given, right, &mut wanted, &mut got);
+    subject::told(letter, c, s, at, right.len(), &wanted, &got, count)
 }
 
 // A line whose numbers were read.
-fn run(subject: Subject, c: Counts, s: &[u8], at: Line, numbers: &[u64; MOST]) -> Counts
+fn run(letter: u8, c: Counts, s: &[u8], at: Line, numbers: &[u64; MOST]) -> Counts
     requires { ⌜ (at .given ≤ at .count) × (at .count ≤ most) ⌝ }
     requires { ⌜ (at .equals ≤ length (now s)) × (at .text ≤ length (now s)) ⌝ }
 {
-    match subject {
-        Subject::Decode => decode::judge(c, s, at, numbers),
-        Subject::Mask => mask::judge(c, s, at, numbers),
-        Subject::Place => places::judge(c, s, at, numbers),
-        Subject::Bytes => bytes::judge(c, s, at, numbers),
-        Subject::Refused => refused::judge(c, s, at, numbers),
-        Subject::Hart => operation::judge(c, s, at, numbers),
-        Subject::Call => call::judge(c, s, at, numbers),
-    }
+    let start = at.given;
+    let end = at.count;
+    let all = &numbers[..];
+    tried(letter, c, s, at, &all[0..start], &all[start..end])
 }
 
 // One line, without its line feed.
-fn judge(subject: Subject, c: Counts, s: &[u8]) -> Counts {
+fn judge(letter: u8, c: Counts, s: &[u8]) -> Counts {
     if s.len() == 0 {
         return report::heading(c, s);
     }
@@ -82,71 +70,61 @@ fn judge(subject: Subject, c: Counts, s: &[u8]) -> Counts {
     let at = line::read(s, &mut numbers);
     let fault = at.fault;
     if let Fault::Nothing = fault {
-        run(subject, c, s, at, &numbers)
+        run(letter, c, s, at, &numbers)
     } else {
-        report::broken(c, s, fault)
+        report::malformed(c, s, fault)
     }
 }
 
-fn every_line(subject: Subject, c: Counts, s: &[u8]) -> Counts {
+fn every_line(letter: u8, c: Counts, s: &[u8]) -> Counts {
     let mut counts = c;
     let mut at = 0;
     while at < s.len() {
         let end = line::end(s, at);
-        counts = judge(subject, counts, &s[at..end]);
+        counts = judge(letter, counts, &s[at..end]);
         at = end + 1;
     }
     counts
 }
 
-// Reading once more tells a file that ended from one that is too long and from one that failed.
-fn file(subject: Subject, c: Counts, name: &[u8]) -> Counts {
-    let fd = os::open_read(name);
-    if fd < 0 {
-        return report::broken(c, name, Fault::NotOpened);
+// A file, read into this room.
+fn within(letter: u8, c: Counts, name: &[u8], room: &mut [u8]) -> Counts {
+    let read = file::read(name, &mut *room);
+    let count = read.count;
+    let end = read.end;
+    if let End::Whole = end {
+        let counts = every_line(letter, report::heading(c, name), &room[0..count]);
+        if counts.cases != c.cases {
+            return counts;
+        }
     }
-    let mut space = buffer();
-    let n = io::read_full(fd, &mut space);
-    let mut one = [0u8; 1];
-    let more = libc::read(fd, &mut one);
-    libc::close(fd);
-    if more < 0 {
-        return report::broken(c, name, Fault::NotRead);
-    }
-    if more > 0 {
-        return report::broken(c, name, Fault::TooLong);
-    }
-    let counts = every_line(subject, report::heading(c, name), &space[..n]);
-    if counts.cases == c.cases {
-        return report::broken(c, name, Fault::Empty);
+    report::unread(c, name, end)
+}
+
+fn run_file(letter: u8, c: Counts, name: &[u8]) -> Counts {
+    let mut room = call::room();
+    within(letter, c, name, &mut room[0..2105344])
+}
+
+// The files of a list: a line for each, with the letter of its subject and its name.
+fn every_file(list: &[u8]) -> Counts {
+    let mut counts = Counts {
+        cases: 0,
+        failed: 0,
+    };
+    let mut at = 0;
+    while at < list.len() {
+        let end = line::end(list, at);
+        if at + 1 < end {
+            counts = run_file(list[at], counts, &list[at + 1..end]);
+        }
+        at = end + 1;
     }
     counts
 }
 
 fn main() {
-    let none = Counts {
-        cases: 0,
-        failed: 0,
-    };
-    let decode = file(Subject::Decode, none, b"decode.txt");
-    let mask = file(Subject::Mask, decode, b"mask.txt");
-    let place = file(Subject::Place, mask, b"place.txt");
-    let bytes = file(Subject::Bytes, place, b"bytes.txt");
-    let refused = file(Subject::Refused, bytes, b"refused.txt");
-    let access = file(Subject::Hart, refused, b"access.txt");
-    let csr = file(Subject::Hart, access, b"csr.txt");
-    let enable = file(Subject::Hart, csr, b"enable.txt");
-    let regime = file(Subject::Hart, enable, b"regime.txt");
-    let legal = file(Subject::Hart, regime, b"legal.txt");
-    let trap = file(Subject::Hart, legal, b"trap.txt");
-    let returns = file(Subject::Hart, trap, b"returns.txt");
-    let instruction = file(Subject::Call, returns, b"instruction.txt");
-    let control = file(Subject::Call, instruction, b"control.txt");
-    let shadow = file(Subject::Call, control, b"shadow.txt");
-    let pad = file(Subject::Call, shadow, b"pad.txt");
-    let fault = file(Subject::Call, pad, b"fault.txt");
-    let runs = file(Subject::Call, fault, b"run.txt");
-    let refusal = file(Subject::Call, runs, b"refusal.txt");
-    let program = file(Subject::Call, refusal, b"program.txt");
-    report::total(program);
+    let files =
+        b"Ddecode.txt\nMmask.txt\nPplace.txt\nBbytes.txt\nRrefused.txt\nHaccess.txt\nHcsr.txt\nHenable.txt\nHregime.txt\nHlegal.txt\nHtrap.txt\nHreturns.txt\nCinstruction.txt\nCcontrol.txt\nCshadow.txt\nCpad.txt\nCfault.txt\nCrun.txt\nCrefusal.txt\nCprogram.txt\n";
+    report::total(every_file(files));
 }

@@ -51,22 +51,41 @@ pub fn start() -> Hart
 // x5 has counted 500,000 turns, x1 is the return address of each, and so is what was pushed last, at 0x57F8, the second of the
 // four doublewords. ssp is back, and no pad is expected. Four runs of 1,000,000 steps end with the last bne; a fifth takes
 // the ecall, from U (cause 8) to M.
-pub fn wanted() -> [u64; 48]
-    ensures { λ r. ⌜ 48 ≡ length r ⌝ }
+pub fn wanted() -> [u64; 32]
+    ensures { λ r. ⌜ 32 ≡ length r ⌝ }
 {
-    let mut w = [0u64; 48];
-    w[1] = 0x1004;
-    w[5] = 500_000;
-    w[12] = 0x1010;
-    w[33] = 3;
-    w[35] = 0x5800;
-    w[36] = 0xa_0000_0000;
-    w[37] = 0x100c;
-    w[38] = 8;
-    w[40] = 5;
-    w[41] = 4_000_001;
-    w[42] = 1;
-    w[43] = 8;
-    w[45] = 0x1004;
-    w
+    [
+        1,
+        0x1004, // x1
+        5,
+        500_000, // x5
+        12,
+        0x1010, // x12
+        33,
+        3, // mode
+        35,
+        0x5800, // ssp
+        37,
+        0xc, // senvcfg
+        42,
+        0x8000_0000_0000_0000, // satp
+        43,
+        0xa_0000_0000, // mstatus
+        46,
+        0x8, // menvcfg
+        48,
+        0x100c, // mepc
+        49,
+        8, // mcause
+        52,
+        5, // runs
+        53,
+        4_000_001, // steps
+        54,
+        1, // trapped
+        55,
+        8, // cause
+        57,
+        0x1004, // memory + 8
+    ]
 }

@@ -1,8 +1,12 @@
 // A lap: a program in memory, run until it traps, a million steps at a time, and the numbers of how it ended.
 ghost use mathlib.Core.Path.{_≡_};
+ghost use Prim.Native.Nat.{_≤_};
 ghost use lib.ListN.{length};
 use hart::Hart;
+use hart::words;
 use isa::Width;
+use lines::line::MOST;
+use lines::row;
 use std::num;
 
 // How many steps a run may take, and how many runs a lap has at most.
@@ -66,19 +70,6 @@ pub fn chained(h: Hart, mem: &mut [u8], map: &[u64]) -> Ran
     }
 }
 
-// The registers, among zeros.
-fn placed(x: [u64; 32]) -> [u64; 48]
-    ensures { λ r. ⌜ 48 ≡ length r ⌝ }
-{
-    let mut all = [0u64; 48];
-    let mut i = 0;
-    while i < 32 {
-        all[i] = x[i];
-        i += 1;
-    }
-    all
-}
-
 // A doubleword of memory; all ones where there is none.
 fn double(mem: &[u8], at: usize) -> u64 {
     if mem.len() < 8 {
@@ -90,40 +81,44 @@ fn double(mem: &[u8], at: usize) -> u64 {
     memory::load(mem, at, Width::Double)
 }
 
-fn bit(b: bool) -> u64 {
-    if b { 1 } else { 0 }
+// Puts four doublewords of memory from `at` on into a row, at its places 56 to 59.
+fn doubles(got: &mut [u64; MOST], mem: &[u8], at: usize) {
+    let mut i = 0;
+    while i < 4 {
+        let v = double(mem, num::wrapping_add_usize(at, i * 8));
+        row::put(&mut *got, 56 + i, v);
+        i += 1;
+    }
 }
 
-// What is compared: x0 to x31, pc, mode, elp, ssp, mstatus, mepc, mcause and mtval, how many runs and steps there were, whether
-// the last one trapped, its cause, and four doublewords of memory from `at` on.
-pub fn numbers(r: Ran, mem: &[u8], at: usize) -> [u64; 48]
-    ensures { λ r. ⌜ 48 ≡ length r ⌝ }
+// Puts what is compared into a row: x0 to x31, the twenty words of `hart::words`, how many runs and steps there were, whether the last
+// one trapped, its cause, and four doublewords of memory from `at` on. Answers how many steps there were.
+pub fn numbers(got: &mut [u64; MOST], r: Ran, mem: &[u8], at: usize) -> u64
+    ensures { λ n. ⌜ n ≡ r .steps ⌝ }
 {
     let h = r.hart;
     let x = h.x;
-    let c = h.csrs;
-    let elp = bit(h.elp);
-    let trapped = bit(r.trapped);
-    let first = double(mem, at);
-    let second = double(mem, num::wrapping_add_usize(at, 8));
-    let third = double(mem, num::wrapping_add_usize(at, 16));
-    let fourth = double(mem, num::wrapping_add_usize(at, 24));
-    let mut all = placed(x);
-    all[32] = h.pc;
-    all[33] = h.mode;
-    all[34] = elp;
-    all[35] = h.ssp;
-    all[36] = c.mstatus;
-    all[37] = c.mepc;
-    all[38] = c.mcause;
-    all[39] = c.mtval;
-    all[40] = r.runs;
-    all[41] = r.steps;
-    all[42] = trapped;
-    all[43] = r.cause;
-    all[44] = first;
-    all[45] = second;
-    all[46] = third;
-    all[47] = fourth;
-    all
+    let rest = words::rest_of(h);
+    let ends = [r.runs, r.steps, words::flag(r.trapped), r.cause];
+    row::copy(&mut *got, 0, &x);
+    row::copy(&mut *got, 32, &rest);
+    row::copy(&mut *got, 52, &ends);
+    doubles(got, mem, at);
+    r.steps
+}
+
+// Puts what is wanted into a row: pairs of a place in it and a number, in turn; every other number is to be 0. Answers how many
+// numbers the pairs have.
+pub fn wanted(row: &mut [u64; MOST], pairs: &[u64]) -> usize
+    ensures { λ r. ⌜ r ≤ length (now (pairs .entry)) ⌝ }
+{
+    let mut i = 0;
+    while i + 1 < pairs.len() {
+        let at = pairs[i];
+        if at < 60 {
+            row::put(&mut *row, at as usize, pairs[i + 1]);
+        }
+        i += 2;
+    }
+    pairs.len()
 }

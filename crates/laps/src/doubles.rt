@@ -38,24 +38,39 @@ pub fn start() -> Hart
 // The doubleword at 0x80001000 counts n = 400,000 turns up, and the word at 0x80001008 counts them down from 0: 2^32 - n. x5
 // and x6 are what was stored last, where x6 is the whole -n. x7 and the byte at 0x80001010 are the low byte of 400,000 =
 // 0x61A80. Four runs of 1,000,000 steps end with the last bne; a fifth takes the ecall.
-pub fn wanted() -> [u64; 48]
-    ensures { λ r. ⌜ 48 ≡ length r ⌝ }
+pub fn wanted() -> [u64; 30]
+    ensures { λ r. ⌜ 30 ≡ length r ⌝ }
 {
-    let mut w = [0u64; 48];
-    w[5] = 400_000;
-    w[6] = 0xffff_ffff_ffff_ffff - 400_000 + 1;
-    w[7] = 0x80;
-    w[11] = 0x8000_1000;
-    w[33] = 3;
-    w[36] = 0xa_0000_1800;
-    w[37] = 0x8000_0028;
-    w[38] = 11;
-    w[40] = 5;
-    w[41] = 4_000_001;
-    w[42] = 1;
-    w[43] = 11;
-    w[44] = 400_000;
-    w[45] = 0x1_0000_0000 - 400_000;
-    w[46] = 0x80;
-    w
+    [
+        5,
+        400_000, // x5
+        6,
+        0xffff_ffff_ffff_ffff - 400_000 + 1, // x6
+        7,
+        0x80, // x7
+        11,
+        0x8000_1000, // x11
+        33,
+        3, // mode
+        43,
+        0xa_0000_1800, // mstatus
+        48,
+        0x8000_0028, // mepc
+        49,
+        11, // mcause
+        52,
+        5, // runs
+        53,
+        4_000_001, // steps
+        54,
+        1, // trapped
+        55,
+        11, // cause
+        56,
+        400_000, // memory
+        57,
+        0x1_0000_0000 - 400_000, // memory + 8
+        58,
+        0x80, // memory + 16
+    ]
 }

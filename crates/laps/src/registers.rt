@@ -36,23 +36,37 @@ pub fn start() -> Hart
 // x7 is the sum of all that x6 was, n (n + 1) (n + 2) / 2 = 62,500,375,000,500,000 = 0xDE0BC28A3BC720, of which the low 32 bits
 // stay, with the sign extended. x11 is twice x5, and x12 says that x5 is less than it. Four runs of 1,000,000 steps end with
 // the last bne; a fifth takes the ecall, to mtvec, which is 0, and saves its pc, cause 11, tval 0 and M in MPP.
-pub fn wanted() -> [u64; 48]
-    ensures { λ r. ⌜ 48 ≡ length r ⌝ }
+pub fn wanted() -> [u64; 28]
+    ensures { λ r. ⌜ 28 ≡ length r ⌝ }
 {
-    let mut w = [0u64; 48];
-    w[5] = 1_500_000;
-    w[6] = 375_000_750_000;
-    w[7] = 0xffff_ffff_8a3b_c720;
-    w[8] = 0xffff_ffff_ffff_ffff - 375_000_750_000 + 1;
-    w[11] = 3_000_000;
-    w[12] = 1;
-    w[33] = 3;
-    w[36] = 0xa_0000_1800;
-    w[37] = 0x8000_0020;
-    w[38] = 11;
-    w[40] = 5;
-    w[41] = 4_000_001;
-    w[42] = 1;
-    w[43] = 11;
-    w
+    [
+        5,
+        1_500_000, // x5
+        6,
+        375_000_750_000, // x6
+        7,
+        0xffff_ffff_8a3b_c720, // x7
+        8,
+        0xffff_ffff_ffff_ffff - 375_000_750_000 + 1, // x8
+        11,
+        3_000_000, // x11
+        12,
+        1, // x12
+        33,
+        3, // mode
+        43,
+        0xa_0000_1800, // mstatus
+        48,
+        0x8000_0020, // mepc
+        49,
+        11, // mcause
+        52,
+        5, // runs
+        53,
+        4_000_001, // steps
+        54,
+        1, // trapped
+        55,
+        11, // cause
+    ]
 }

@@ -2,58 +2,12 @@
 ghost use mathlib.Core.Path.{_≡_};
 ghost use mathlib.Core.Bool.{true};
 use libc::STDOUT_FILENO;
+use lines::line::MOST;
 use lines::report;
+use lines::row;
 
 fn print(text: &[u8]) {
     io::write_all(STDOUT_FILENO, text);
-}
-
-// What the number at a place is.
-fn name(i: usize) {
-    match i {
-        32 => print(b"pc"),
-        33 => print(b"mode"),
-        34 => print(b"elp"),
-        35 => print(b"ssp"),
-        36 => print(b"mstatus"),
-        37 => print(b"mepc"),
-        38 => print(b"mcause"),
-        39 => print(b"mtval"),
-        40 => print(b"runs"),
-        41 => print(b"steps"),
-        42 => print(b"trapped"),
-        43 => print(b"cause"),
-        44 => print(b"memory"),
-        45 => print(b"memory+8"),
-        46 => print(b"memory+16"),
-        47 => print(b"memory+24"),
-        _ => {
-            print(b"x");
-            io::print_decimal(STDOUT_FILENO, i as u64);
-        }
-    }
-}
-
-fn difference(i: usize, wanted: u64, got: u64) {
-    print(b", ");
-    name(i);
-    print(b" is 0x");
-    io::print_hex(STDOUT_FILENO, got, 1);
-    print(b" and not 0x");
-    io::print_hex(STDOUT_FILENO, wanted, 1);
-}
-
-// Prints each number that is not the wanted one.
-fn differences(wanted: &[u64; 48], got: &[u64; 48]) {
-    let mut i = 0;
-    while i < 48 {
-        if wanted[i] == got[i] {
-            i += 1;
-            continue;
-        }
-        difference(i, wanted[i], got[i]);
-        i += 1;
-    }
 }
 
 // What was run.
@@ -66,24 +20,29 @@ fn headline(lap: &[u8], steps: u64, runs: u64) {
     print(b" runs");
 }
 
-// How it ended.
-fn ended(right: bool, wanted: &[u64; 48], got: &[u64; 48]) {
+// How it ended: by name, each number that is not the wanted one.
+fn ended(right: bool, wanted: &[u64], got: &[u64]) {
     if right {
         print(b", as expected\n");
         return;
     }
-    differences(wanted, got);
+    print(b", but got");
+    report::differences(
+        b"x0 x1 x2 x3 x4 x5 x6 x7 x8 x9 x10 x11 x12 x13 x14 x15 x16 x17 x18 x19 x20 x21 x22 x23 x24 x25 x26 x27 x28 x29 x30 x31 pc mode elp ssp stvec senvcfg sscratch sepc scause stval satp mstatus medeleg mtvec menvcfg mscratch mepc mcause mtval mseccfg runs steps trapped cause memory memory+8 memory+16 memory+24 ",
+        wanted,
+        got,
+    );
     print(b"\n");
 }
 
 // Prints the line of a lap, and says whether every number is as wanted.
-pub fn told(lap: &[u8], wanted: &[u64; 48], got: &[u64; 48]) -> bool
+pub fn told(lap: &[u8], wanted: &[u64; MOST], got: &[u64; MOST]) -> bool
     ensures { λ r. ⌜ (r ≡ true → now (wanted .entry) ≡ now (got .entry)) × (now (wanted .entry) ≡ now (got .entry) → r ≡ true) ⌝ }
 {
-    headline(lap, got[41], got[40]);
     let all = &wanted[..];
     let numbers = &got[..];
+    headline(lap, row::at(numbers, 53), row::at(numbers, 52));
     let right = report::same(all, numbers);
-    ended(right, wanted, got);
+    ended(right, all, numbers);
     right
 }

@@ -7,10 +7,17 @@
 ghost use Prim.Native.Nat.{_≤_, _+_};
 ghost use lib.ListN.{length};
 ghost use Rattle.lines.specs.Most.{most};
-use super::report::Fault;
 
 // How many numbers a line has at most: those of a page map of 65 entries, one too many, and the case's own.
 pub const MOST: usize = 192;
+
+// What can be wrong with a line.
+pub enum Fault {
+    Nothing,
+    Numbers,
+    NoEquals,
+    NoText,
+}
 
 // The given numbers are the first `given` that were read, the wanted ones follow up to `count`. `=`
 // stands at `equals`, and the text starts at `text`.

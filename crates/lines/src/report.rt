@@ -5,8 +5,10 @@ ghost use mathlib.Core.Bool.{true};
 ghost use Prim.Native.Nat.{_≤_};
 ghost use lib.ListN.{length};
 ghost use Rattle.lines.specs.Counted.{oneMore};
+use super::file::End;
+use super::line::Fault;
 use super::line::Line;
-use super::line::MOST;
+use super::row;
 use libc::STDOUT_FILENO;
 
 pub struct Counts {
@@ -14,40 +16,8 @@ pub struct Counts {
     pub failed: u64,
 }
 
-// What can be wrong with a line or a file.
-pub enum Fault {
-    Nothing,
-    Numbers,
-    NoEquals,
-    NoText,
-    Given,
-    Wanted,
-    NotOpened,
-    NotRead,
-    TooLong,
-    Empty,
-}
-
 fn print(text: &[u8]) {
     io::write_all(STDOUT_FILENO, text);
-}
-
-fn explain(fault: Fault) {
-    match fault {
-        Fault::Nothing => print(b"nothing is wrong"),
-        Fault::Numbers => {
-            print(b"a number has more than 64 bits, or there are more numbers than ");
-            io::print_decimal(STDOUT_FILENO, MOST as u64);
-        }
-        Fault::NoEquals => print(b"a bad character, or no '=', after the given numbers"),
-        Fault::NoText => print(b"a bad character, or no '#', after the wanted numbers"),
-        Fault::Given => print(b"not the given numbers that a case of this file has"),
-        Fault::Wanted => print(b"not as many wanted numbers as a case of this file has"),
-        Fault::NotOpened => print(b"cannot be opened"),
-        Fault::NotRead => print(b"cannot be read"),
-        Fault::TooLong => print(b"is longer than the program's buffer"),
-        Fault::Empty => print(b"has no case"),
-    }
 }
 
 // Stays at the largest number, so that a count never falls back to 0.
@@ -84,16 +54,48 @@ pub fn heading(c: Counts, s: &[u8]) -> Counts
     c
 }
 
-// A line or a file that cannot be run: `what` says which.
-pub fn broken(c: Counts, what: &[u8], fault: Fault) -> Counts
+// A line or a file that cannot be run: `what` says which, and `why` what is wrong with it.
+pub fn broken(c: Counts, what: &[u8], why: &[u8]) -> Counts
     ensures { λ r. ⌜ (r .cases ≡ oneMore (c .cases)) × (r .failed ≡ oneMore (c .failed)) ⌝ }
 {
     print(b"FAILED ");
     print(what);
     print(b": ");
-    explain(fault);
+    print(why);
     print(b"\n");
     failed(c)
+}
+
+// A line that has not the form of a case.
+pub fn malformed(c: Counts, s: &[u8], fault: Fault) -> Counts
+    ensures { λ r. ⌜ (r .cases ≡ oneMore (c .cases)) × (r .failed ≡ oneMore (c .failed)) ⌝ }
+{
+    match fault {
+        Fault::Nothing => broken(c, s, b"nothing is wrong"),
+        Fault::Numbers => broken(
+            c,
+            s,
+            b"a number has more than 64 bits, or there are more numbers than 192",
+        ),
+        Fault::NoEquals => broken(c, s, b"a bad character, or no '=', after the given numbers"),
+        Fault::NoText => broken(
+            c,
+            s,
+            b"a bad character, or no '#', after the wanted numbers",
+        ),
+    }
+}
+
+// A file that was not read whole, or has no case.
+pub fn unread(c: Counts, name: &[u8], end: End) -> Counts
+    ensures { λ r. ⌜ (r .cases ≡ oneMore (c .cases)) × (r .failed ≡ oneMore (c .failed)) ⌝ }
+{
+    match end {
+        End::Whole => broken(c, name, b"has no case"),
+        End::NotOpened => broken(c, name, b"cannot be opened"),
+        End::NotRead => broken(c, name, b"cannot be read"),
+        End::TooLong => broken(c, name, b"is longer than the program's buffer"),
+    }
 }
 
 // Whether two rows of numbers are the same.
@@ -197,35 +199,36 @@ fn print_difference(name: &[u8], wanted: u64, got: u64) {
     }
 }
 
-fn print_differences(names: &[u8], wanted: &[u64], got: &[u64])
-    requires { ⌜ length (now wanted) ≡ length (now got) ⌝ }
+// Each number that is not the wanted one, by its name. Each name in `names` has a blank after it. Answers where the names that
+// are left start.
+pub fn differences(names: &[u8], wanted: &[u64], got: &[u64]) -> usize
+    ensures { λ r. ⌜ r ≤ length (now (names .entry)) ⌝ }
 {
     let mut i = 0;
     let mut at = 0;
     while i < wanted.len() {
         let next = next_name(names, at);
-        print_difference(&names[at..next], wanted[i], got[i]);
+        print_difference(&names[at..next], wanted[i], row::at(got, i));
         at = next;
         i += 1;
     }
+    at
 }
 
 fn print_differing(s: &[u8], text: usize, names: &[u8], wanted: &[u64], got: &[u64])
     requires { ⌜ text ≤ length (now s) ⌝ }
-    requires { ⌜ length (now wanted) ≡ length (now got) ⌝ }
 {
     print(b"FAILED ");
     print(&s[text..]);
     print(b": got");
-    print_differences(names, wanted, got);
+    differences(names, wanted, got);
     print(b"\n");
 }
 
 // A case of many numbers that was run, as `judged`; printed are its text and, by name, the numbers that are
-// not the wanted ones. Each name in `names` has a blank after it.
+// not the wanted ones (`differences`).
 pub fn compared(c: Counts, s: &[u8], at: Line, names: &[u8], wanted: &[u64], got: &[u64]) -> Counts
     requires { ⌜ at .text ≤ length (now s) ⌝ }
-    requires { ⌜ length (now wanted) ≡ length (now got) ⌝ }
     ensures { λ r. ⌜ r .cases ≡ oneMore (c .cases) ⌝ }
     ensures { λ r. ⌜ (now (wanted .entry) ≡ now (got .entry) → r .failed ≡ c .failed) ⌝ }
     ensures { λ r. ⌜ ((now (wanted .entry) ≡ now (got .entry) → ⊥) → r .failed ≡ oneMore (c .failed)) ⌝ }

@@ -6,10 +6,10 @@ use Rattle.cases.proofs.every_line.Statement.{statement}
 use Rattle.cases.proofs.every_line.Tie as tie
 
 abbrev Inv-loop : tie.InvT-loop
-Inv-loop subject s counts₀ at₀ counts at = at ≤ 1 + length s
+Inv-loop letter s counts₀ at₀ counts at = at ≤ 1 + length s
 
 abbrev μ-loop : tie.MeasureT-loop
-μ-loop subject s counts₀ at₀ counts at = 1 + length s - at
+μ-loop letter s counts₀ at₀ counts at = 1 + length s - at
 
 pub every-line-spec : {M : Type 1} → statement M
 every-line-spec =

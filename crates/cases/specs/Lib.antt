@@ -1,4 +1,0 @@
-pub mod Call
-pub mod Kinds
-pub mod Shown
-pub mod State
