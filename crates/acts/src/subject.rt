@@ -11,7 +11,6 @@ use lines::line::MOST;
 use lines::report;
 use lines::report::Counts;
 use rules::bytes;
-use rules::decode;
 use rules::mask;
 use rules::places;
 use rules::refused;
@@ -22,7 +21,7 @@ pub fn came(letter: u8, given: &[u64], got: &mut [u64; MOST]) -> usize
     ensures { λ r. ⌜ r ≤ most ⌝ }
 {
     match letter {
-        b'D' => decode::run(given, got),
+        b'D' => decoded::run(given, got),
         b'M' => mask::run(given, got),
         b'P' => places::run(given, got),
         b'B' => bytes::run(given, got),

@@ -1,7 +1,7 @@
 // The cases of the public calls: a call, its argument, the length of memory, a hart, a page map and the content of
 // memory, and what comes of it: the answer, and every byte of memory.
 //
-// What the given numbers are says `rules::scene`. The wanted ones are refusal, count, whether it trapped, cause, the hart, and
+// What the given numbers are says crate `scene`. The wanted ones are refusal, count, whether it trapped, cause, the hart, and
 // pairs for what has changed in memory.
 ghost use mathlib.Core.Path.{_≡_};
 ghost use Prim.Native.Nat.{_≤_};
@@ -13,8 +13,7 @@ use hart::words;
 use lines::line::MOST;
 use lines::row;
 use machine::Answer;
-use rules::scene;
-use rules::scene::Difference;
+use scene::Difference;
 
 // How many numbers are wanted before the pairs.
 const WANTED: usize = 56;
@@ -65,17 +64,14 @@ struct Ran {
     difference: Difference,
 }
 
-// A case in a room of zeros. Its first half is the memory in which the call is executed, and the other half what that is to be after it.
+// A case in a room of zeros.
 fn within(n: &[u64], changed: &[u64], room: &mut [u8]) -> Ran {
-    let half = room.len() / 2;
-    let end = scene::size(n, half);
-    let first = scene::after(n, changed, &mut room[half..]);
-    let second = scene::before(n, &mut room[0..end]);
+    let ok = scene::fill(n, changed, &mut *room);
+    let end = scene::size(n, room.len());
     let answer = executed(n, &mut room[0..end]);
-    let all = &room[..];
-    let difference = scene::compared(&all[0..end], &all[half..], end);
+    let difference = scene::compared(n, &*room);
     Ran {
-        ok: first && second,
+        ok,
         answer,
         difference,
     }

@@ -5,12 +5,14 @@
 // of memory, the hart (52 numbers), the map's entries that are made (how many, the first page, the first leaf), how many words
 // of the map follow, those words, and the pairs of memory's content (module `content`).
 ghost use mathlib.Core.Path.{_≡_};
-ghost use Prim.Native.Nat.{_≤_};
+ghost use Prim.Native.Nat.{_≤_, _/_};
 ghost use Rattle.lines.specs.Most.{most};
 ghost use lib.ListN.{length};
-use super::content;
 use lines::line::MOST;
 use lines::row;
+
+// The content of a memory, and the entries of a map that are made.
+mod content;
 
 // Where the words of the map start, how many entries of it can be made, and how many words it can have besides.
 const WORDS: usize = 59;
@@ -18,6 +20,9 @@ const WORDS: usize = 59;
 const MADE: u64 = 66;
 
 const LISTED: u64 = 28;
+
+// How many bytes a memory can have: a page more than a call accepts.
+const ROOM: u64 = 1_052_672;
 
 // The offset of a byte that is wrong, where none is.
 const NOWHERE: u64 = 0xffff_ffff_ffff_ffff;
@@ -53,36 +58,41 @@ fn pairs(n: &[u64]) -> usize
     WORDS + words as usize
 }
 
+// Whether there is room for the memory, the entries and the words of a case, and its words are there.
+fn has_room(n: &[u64]) -> bool {
+    if row::at(n, 2) > ROOM {
+        return false;
+    }
+    if row::at(n, 55) > MADE {
+        return false;
+    }
+    let words = row::at(n, 58);
+    if words > LISTED {
+        return false;
+    }
+    WORDS + words as usize <= n.len()
+}
+
 // How many numbers are compared of such a case: those of the answer, and two on memory. 0 where the given numbers are not those
-// of such a case: the call and its argument, ELP, and how many entries and words there are.
+// of such a case.
 pub fn compared_numbers(n: &[u64]) -> usize
     ensures { λ r. ⌜ r ≤ 58 ⌝ }
 {
-    if n.len() < WORDS {
-        return 0;
-    }
-    if row::at(n, 37) > 1 {
-        return 0;
-    }
-    if row::at(n, 55) > MADE {
-        return 0;
-    }
-    if row::at(n, 58) > LISTED {
-        return 0;
-    }
-    if known(row::at(n, 0), row::at(n, 1)) {
+    let call = known(row::at(n, 0), row::at(n, 1));
+    if call && row::at(n, 37) <= 1 && has_room(n) {
         return 58;
     }
     0
 }
 
-// How many bytes memory has, of so many that there is room for.
+// How many bytes memory has. It is the start of a room, of which the other half is for what memory is to be after the call.
 pub fn size(n: &[u64], room: usize) -> usize
-    ensures { λ r. ⌜ r ≤ room ⌝ }
+    ensures { λ r. ⌜ r ≤ room / 2 ⌝ }
 {
     let len = row::at(n, 2);
-    if len > room as u64 {
-        return room;
+    let half = room / 2;
+    if len > half as u64 {
+        return half;
     }
     len as usize
 }
@@ -108,31 +118,40 @@ pub fn map(n: &[u64], map: &mut [u64; MOST]) -> usize
 }
 
 // Fills a memory of zeros as it is before the call. Whether each pair is one that can be.
-pub fn before(n: &[u64], mem: &mut [u8]) -> bool
-    ensures { λ r. ⌜ length (now (mem .exit)) ≡ length (now (mem .entry)) ⌝ }
-{
+fn before(n: &[u64], mem: &mut [u8]) -> bool {
     let at = pairs(n);
     content::fill(mem, &n[at..])
 }
 
 // Fills a memory of zeros as it is to be after the call. Whether each pair is one that can be.
-pub fn after(n: &[u64], changed: &[u64], mem: &mut [u8]) -> bool
-    ensures { λ r. ⌜ length (now (mem .exit)) ≡ length (now (mem .entry)) ⌝ }
-{
+fn after(n: &[u64], changed: &[u64], mem: &mut [u8]) -> bool {
     let first = before(n, &mut *mem);
     let second = content::fill(mem, changed);
     first && second
 }
 
-// The first byte of memory below `end` that is not as it is to be.
-pub fn compared(mem: &[u8], right: &[u8], end: usize) -> Difference
+// Fills both halves of a room of zeros. Whether each pair is one that can be.
+pub fn fill(n: &[u64], changed: &[u64], room: &mut [u8]) -> bool
+    ensures { λ r. ⌜ length (now (room .exit)) ≡ length (now (room .entry)) ⌝ }
+{
+    let end = size(n, room.len());
+    let half = room.len() / 2;
+    let first = before(n, &mut room[0..end]);
+    let second = after(n, changed, &mut room[half..half + end]);
+    first && second
+}
+
+// The first byte of memory that is not as it is to be.
+pub fn compared(n: &[u64], room: &[u8]) -> Difference
     ensures { λ r. ⌜ r .wanted ≤ 255 ⌝ }
 {
-    let at = content::differs(mem, right, end);
+    let end = size(n, room.len());
+    let right = &room[room.len() / 2..];
+    let at = content::differs(room, right, end);
     if at < end {
         return Difference {
             offset: at as u64,
-            found: content::byte(mem, at) as u64,
+            found: content::byte(room, at) as u64,
             wanted: content::byte(right, at) as u64,
         };
     }

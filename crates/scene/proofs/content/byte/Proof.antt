@@ -1,10 +1,10 @@
--- `rules::content::byte` meets its contract: past the end of the memory there is the default. Assumes nothing.
+-- `scene::content::byte` meets its contract: past the end of the memory there is the default. Assumes nothing.
 use borrow.Author.Needs.{needs}
 use mathlib.Core.Path.{sym}
 use native.Mathlib.Omega.{arith}
 use lib.ListN.{List·getD-eq-default}
-use Rattle.rules.proofs.content.byte.Statement.{statement}
-use Rattle.rules.proofs.content.byte.Tie as tie
+use Rattle.scene.proofs.content.byte.Statement.{statement}
+use Rattle.scene.proofs.content.byte.Tie as tie
 
 pub byte-spec : {M : Type 1} → statement M
 byte-spec =

@@ -1,8 +1,8 @@
--- `rules::content::rising` is safe and ends. Assumes nothing.
+-- `scene::content::rising` is safe and ends. Assumes nothing.
 use borrow.Author.Needs.{needs}
 use Prim.Native.Nat.{_≤_, _-_}
-use Rattle.rules.proofs.content.rising.Statement.{statement}
-use Rattle.rules.proofs.content.rising.Tie as tie
+use Rattle.scene.proofs.content.rising.Statement.{statement}
+use Rattle.scene.proofs.content.rising.Tie as tie
 
 abbrev Inv-loop : tie.InvT-loop
 Inv-loop map₀ entries page leaf next₀ i₀ map next i = i ≤ entries

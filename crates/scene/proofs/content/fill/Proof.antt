@@ -1,10 +1,10 @@
--- `rules::content::fill` is safe and ends. Assumes nothing.
+-- `scene::content::fill` is safe and ends. Assumes nothing.
 use borrow.Author.Needs.{needs}
 use Prim.Native.Nat.{_≤_, _-_}
 use mathlib.Core.Path.{_≡_}
 use lib.ListN.{length}
-use Rattle.rules.proofs.content.fill.Statement.{statement}
-use Rattle.rules.proofs.content.fill.Tie as tie
+use Rattle.scene.proofs.content.fill.Statement.{statement}
+use Rattle.scene.proofs.content.fill.Tie as tie
 
 abbrev Inv-loop : tie.InvT-loop
 Inv-loop mem₀ pairs i₀ mem i = (i ≤ length pairs) × (length mem ≡ length mem₀)

@@ -1,8 +1,8 @@
--- `rules::content::differs` meets its contract: the loop stays within the memory. Assumes nothing.
+-- `scene::content::differs` meets its contract: the loop stays within the memory. Assumes nothing.
 use borrow.Author.Needs.{needs}
 use Prim.Native.Nat.{_≤_, _-_}
-use Rattle.rules.proofs.content.differs.Statement.{statement}
-use Rattle.rules.proofs.content.differs.Tie as tie
+use Rattle.scene.proofs.content.differs.Statement.{statement}
+use Rattle.scene.proofs.content.differs.Tie as tie
 
 abbrev Inv-loop : tie.InvT-loop
 Inv-loop a b end i₀ i = i ≤ end
