@@ -6,7 +6,7 @@ that they test. Where the assembler is missing, the words are those of the store
 changed since those were made.
 
 A line of the data is a word, '=', eight numbers and the text: family, operation, rd, rs1, rs2, immediate and two more,
-as crates/cases/specs/Shown.antt defines them.
+as crates/decoded/src/lib.rt says.
 """
 import pathlib
 import re

@@ -66,7 +66,7 @@ fn held(letter: u8, c: Counts, s: &[u8], at: Line, wanted: &[u64], got: &[u64]) 
     }
 }
 
-// A case of which so many numbers came, 0 where its given numbers are not those of such a case: the first numbers of both rows are
+// A case of which so many numbers came, 0 where its given numbers, or its pairs, are none that can be: the first numbers of both rows are
 // compared. The line has `had` wanted numbers.
 pub fn told(
     letter: u8,
@@ -82,7 +82,11 @@ pub fn told(
     ensures { λ r. ⌜ r .cases ≡ oneMore (c .cases) ⌝ }
 {
     if count == 0 {
-        return report::broken(c, s, b"not the given numbers that a case of this file has");
+        return report::broken(
+            c,
+            s,
+            b"not the given numbers, or not pairs of memory, that a case of this file has",
+        );
     }
     if !fits(letter, count, had) {
         return report::broken(
