@@ -17,7 +17,7 @@ use lines::report::Counts;
 use lines::row;
 
 // Steps and runs: the public calls.
-mod call;
+mod calls;
 
 // Runs a case: puts what came of it into a row of zeros, and answers how many numbers these are. The wanted numbers stand in their
 // row already; a call adds to them.
@@ -31,7 +31,7 @@ fn came(
     ensures { λ r. ⌜ r ≤ most ⌝ }
 {
     if letter == b'C' {
-        return call::run(given, right, wanted, got);
+        return calls::run(given, right, wanted, got);
     }
     subject::came(letter, given, got)
 }
@@ -102,7 +102,7 @@ fn within(letter: u8, c: Counts, name: &[u8], room: &mut [u8]) -> Counts {
 }
 
 fn run_file(letter: u8, c: Counts, name: &[u8]) -> Counts {
-    let mut room = call::room();
+    let mut room = calls::room();
     within(letter, c, name, &mut room[0..2105344])
 }
 

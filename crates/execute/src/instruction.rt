@@ -18,7 +18,7 @@ ghost use lib.ListN.{length};
 ghost use Rattle.word.specs.Sum.{sumOf};
 ghost use Rattle.effect.specs.Compute.{operationOf, wordOperationOf, conditionOf};
 ghost use Rattle.effect.specs.Jump.{branchOf};
-ghost use Rattle.execute.specs.Instruction.{shownOf, executeOf};
+ghost use Rattle.meaning.specs.Instruction.{shownOf, executeOf};
 ghost use Rattle.effect.specs.declared.Effect.the-variants.{Write};
 
 // A read of ssp, by the active shadow enable.

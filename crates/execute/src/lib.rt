@@ -5,9 +5,3 @@
 mod instruction;
 // The fetch, the landing pad check, and then the instruction.
 pub mod plan;
-
-// Where a step takes its word from: it fetches at pc, or a word is given as if it had been fetched there.
-pub enum Source {
-    Fetch,
-    Given(u32),
-}

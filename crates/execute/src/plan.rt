@@ -1,11 +1,12 @@
 // A step's effect, in document 01's order: fetch faults, then the landing pad check, then decoding, then the instruction.
-use super::Source;
 use super::instruction;
 use address::Virtual;
 use address::control::Control;
 use effect::Effect;
 use effect::Setting;
 use effect::register::reg;
+use meaning::Fetched;
+use meaning::Source;
 use place::Place;
 use place::steps;
 use word::choice;
@@ -13,13 +14,7 @@ use word::sum;
 ghost use mathlib.Core.Path.{_≡_};
 ghost use Prim.Native.Nat.{_^_, _≤_};
 ghost use lib.ListN.{length};
-ghost use Rattle.execute.specs.Plan.{fetchedOf, isPad, landedOf, effectOf};
-
-// A word, or why there is none: cause and tval.
-pub enum Fetched {
-    Word(u32),
-    Fault(u8, u64),
-}
+ghost use Rattle.meaning.specs.Plan.{fetchedOf, isPad, landedOf, effectOf};
 
 fn fetch(source: Source, c: Control, pc: u64, mem: &[u8], map: &[u64]) -> Fetched
     requires { ⌜ length (now mem) ≤ 2 ^ 20 ⌝ }

@@ -20,7 +20,7 @@ ghost use Rattle.status.specs.Mode.{modeOf};
 ghost use Rattle.effect.specs.Csrs.{csrOf, writesOf, mergedOf};
 ghost use Rattle.effect.specs.Register.{regOf, putOf};
 ghost use Rattle.effect.specs.declared.Setting.{Setting};
-ghost use Rattle.execute.specs.Instruction.{executeOf, nextOf};
+ghost use Rattle.meaning.specs.Instruction.{executeOf, nextOf};
 ghost use Rattle.handler.specs.Handler.{Handles};
 ghost use Rattle.handler.specs.Named.{Finds, heldOf};
 

@@ -7,8 +7,8 @@ use mathlib.Core.Path.{_≡_, refl, sym, ap, _∙_}
 use Prim.Native.Nat.{ℕ, zero, suc, _+_}
 use native.Mathlib.Nat.{add-assoc, zero-add, suc-add}
 use native.Mathlib.Omega.{arith}
-use Rattle.execute.specs.declared.Source.{Source}
-use Rattle.execute.specs.declared.Source.the-variants.{Fetch}
+use Rattle.meaning.specs.declared.Source.{Source}
+use Rattle.meaning.specs.declared.Source.the-variants.{Fetch}
 use Rattle.hart.specs.Run.{Run, after, followed, runFrom, runOf}
 use Rattle.hart.specs.Step.{Outcome, stepFrom}
 use Rattle.hart.specs.declared.Hart.{Hart}

@@ -12,9 +12,9 @@ use Rattle.effect.specs.declared.Effect.{Effect}
 use Rattle.effect.specs.declared.Effect.the-variants.{Write, Jump, Pad, Store, Push, Pop, Swap, Whole, Trap}
 use Rattle.effect.specs.declared.Whole as kind
 use Rattle.effect.specs.declared.Whole.the-variants as whole
-use Rattle.execute.specs.Instruction.{executeOf, nextOf}
-use Rattle.execute.specs.Plan.{landedOf, arrivedOf, effectOf}
-use Rattle.execute.specs.declared.Source.the-variants.{Fetch}
+use Rattle.meaning.specs.Instruction.{executeOf, nextOf}
+use Rattle.meaning.specs.Plan.{landedOf, arrivedOf, effectOf}
+use Rattle.meaning.specs.declared.Source.the-variants.{Fetch}
 use Rattle.quick.specs.Quick.{Applied, Does}
 use Rattle.handler.specs.Handler.{Carried, Handled, Handles}
 use Rattle.hart.specs.Glide.{hartAt, saidOf, Straight, Fetches, Turned}

@@ -6,9 +6,9 @@ use mathlib.Core.List.{List}
 use mathlib.Core.Path.{_≡_}
 use Prim.Native.Nat.{ℕ}
 use Rattle.decoder.proofs.Examples.{row-5, row-8, row-9}
-use Rattle.execute.specs.Instruction.{nextOf, executeOf}
+use Rattle.meaning.specs.Instruction.{nextOf, executeOf}
 use Rattle.effect.specs.Jump.{jalrOf}
-use Rattle.execute.specs.Plan.{fetchedOf, landedOf, arrivedOf, effectOf}
+use Rattle.meaning.specs.Plan.{fetchedOf, landedOf, arrivedOf, effectOf}
 use Rattle.effect.specs.Register.{regOf}
 use Rattle.regime.specs.Regime.{shadowOn, padOn}
 use Rattle.bank.specs.Setting.{settingOf}

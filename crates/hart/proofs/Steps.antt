@@ -16,15 +16,15 @@ use Rattle.memory.proofs.Stores.{length-store}
 use Rattle.place.specs.Place.{base, Within}
 use Rattle.place.specs.declared.Physical.{Physical}
 use Rattle.csr.specs.declared.Csr.{Csr}
-use Rattle.execute.proofs.Aligned.{WholeAligned, Aligned, effect-aligned}
-use Rattle.execute.proofs.Stays.{effect-stays}
+use Rattle.meaning.proofs.Aligned.{WholeAligned, Aligned, effect-aligned}
+use Rattle.meaning.proofs.Stays.{effect-stays}
 use Rattle.effect.specs.Csrs.{mergedOf}
 use Rattle.effect.specs.Effect.{Stays}
 use Rattle.effect.specs.declared.Effect.{Effect}
 use Rattle.effect.specs.declared.Effect.the-variants.{Write, Jump, Pad, Store, Push, Pop, Swap, Trap}
 use Rattle.effect.specs.declared.Effect.the-variants as effect
-use Rattle.execute.specs.declared.Source.{Source}
-use Rattle.execute.specs.declared.Source.the-variants.{Fetch}
+use Rattle.meaning.specs.declared.Source.{Source}
+use Rattle.meaning.specs.declared.Source.the-variants.{Fetch}
 use Rattle.effect.specs.declared.Whole.{Whole}
 use Rattle.effect.specs.declared.Whole.the-variants as whole
 use Rattle.hart.specs.Access.{csrReadOf, csrWriteOf}

@@ -8,8 +8,8 @@ use native.Mathlib.Nat.{add-assoc}
 use native.Mathlib.Omega.{arith}
 use Rattle.effect.specs.declared.Effect.{Effect}
 use Rattle.effect.specs.declared.Effect.the-variants.{Write, Jump, Pad, Store, Push, Pop, Swap, Whole, Trap}
-use Rattle.execute.specs.declared.Source.{Source}
-use Rattle.execute.specs.declared.Source.the-variants.{Fetch}
+use Rattle.meaning.specs.declared.Source.{Source}
+use Rattle.meaning.specs.declared.Source.the-variants.{Fetch}
 use Rattle.hart.specs.Run.{Run, after, stayed, once, followed, runFrom, Midway, ranOf, toldOf}
 use Rattle.transfer.specs.Commit.{memoryOf}
 use Rattle.hart.specs.Step.{Outcome, applyOf, trapsOf, causeOf, planOf, stepFrom}

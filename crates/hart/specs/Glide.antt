@@ -6,10 +6,10 @@ use mathlib.Core.List.{List}
 use mathlib.Core.Path.{_≡_}
 use Prim.Native.Nat.{ℕ}
 use lib.ListN.{length, getD}
-use Rattle.execute.specs.declared.Source.{Source}
-use Rattle.execute.specs.declared.Source.the-variants.{Fetch}
-use Rattle.execute.specs.Plan.{fetchedOf}
-use Rattle.execute.specs.declared.plan.Fetched.the-variants as fetched
+use Rattle.meaning.specs.declared.Source.{Source}
+use Rattle.meaning.specs.declared.Source.the-variants.{Fetch}
+use Rattle.meaning.specs.Plan.{fetchedOf}
+use Rattle.meaning.specs.declared.Fetched.the-variants as fetched
 use Rattle.transfer.specs.Commit.{memoryOf}
 use Rattle.effect.specs.declared.Setting.{Setting}
 use Rattle.bank.specs.Setters.{csrsOf}

@@ -3,8 +3,8 @@ use mathlib.Core.Bool.{Bool, true, false}
 use mathlib.Core.List.{List}
 use mathlib.Core.Path.{_≡_}
 use Prim.Native.Nat.{ℕ, zero, suc, _+_, _-_, _≤_}
-use Rattle.execute.specs.declared.Source.{Source}
-use Rattle.execute.specs.declared.Source.the-variants.{Fetch}
+use Rattle.meaning.specs.declared.Source.{Source}
+use Rattle.meaning.specs.declared.Source.the-variants.{Fetch}
 use Rattle.hart.specs.Step.{Outcome, stepFrom}
 use Rattle.hart.specs.declared.Hart.{Hart}
 use Rattle.hart.specs.declared.engine.Told.{Told}

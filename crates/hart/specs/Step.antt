@@ -8,14 +8,14 @@ use Rattle.word.specs.Choice.{pick}
 use Rattle.isa.specs.declared.CsrOperation.{CsrOperation}
 use Rattle.csr.specs.declared.Csr.{Csr}
 use Rattle.effect.specs.Csrs.{mergedOf}
-use Rattle.execute.specs.Plan.{effectOf}
+use Rattle.meaning.specs.Plan.{effectOf}
 use Rattle.effect.specs.Register.{putOf}
 use Rattle.transfer.specs.Commit.{memoryOf}
 use Rattle.effect.specs.declared.Effect.{Effect}
 use Rattle.effect.specs.declared.Effect.the-variants.{Write, Jump, Pad, Store, Push, Pop, Swap, Trap}
 use Rattle.effect.specs.declared.Effect.the-variants as effect
-use Rattle.execute.specs.declared.Source.{Source}
-use Rattle.execute.specs.declared.Source.the-variants.{Fetch, Given}
+use Rattle.meaning.specs.declared.Source.{Source}
+use Rattle.meaning.specs.declared.Source.the-variants.{Fetch, Given}
 use Rattle.effect.specs.declared.Whole.{Whole}
 use Rattle.effect.specs.declared.Whole.the-variants as whole
 use Rattle.hart.specs.Access.{csrReadOf, csrWriteOf}

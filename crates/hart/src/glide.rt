@@ -2,8 +2,8 @@
 // enough for the compiler to keep pc and the count in registers.
 use address::control;
 use effect::Setting;
-use execute::Source;
-use execute::plan::Fetched;
+use meaning::Fetched;
+use meaning::Source;
 use quick::Tried;
 use quick::opcodes;
 use word::sum;
@@ -13,7 +13,7 @@ ghost use Prim.Native.Nat.{_^_, _≤_};
 ghost use lib.Dec.{eqb};
 ghost use lib.ListN.{length};
 ghost use Rattle.address.specs.Control.{bareOf, flatOf};
-ghost use Rattle.execute.specs.declared.Source.the-variants.{Fetch};
+ghost use Rattle.meaning.specs.declared.Source.the-variants.{Fetch};
 ghost use Rattle.hart.specs.Glide.{saidOf, Straight, Fetches, Turned, Glides};
 ghost use Rattle.hart.specs.Words.{AreWords};
 

@@ -3,7 +3,7 @@ use super::Hart;
 use super::engine;
 use super::setters;
 use super::words;
-use execute::Source;
+use meaning::Source;
 ghost use mathlib.Core.Path.{_≡_};
 ghost use Prim.Native.Nat.{_^_, _≤_};
 ghost use lib.ListN.{length};

@@ -2,7 +2,7 @@
 // step: the compiler inlines the making of an effect only where it has one caller, and that is the run's loop.
 use super::Hart;
 use super::run;
-use execute::Source;
+use meaning::Source;
 ghost use mathlib.Core.Path.{_≡_};
 ghost use Prim.Native.Nat.{_^_, _≤_};
 ghost use lib.ListN.{length};

@@ -12,16 +12,16 @@ use borrow.Author.Tests.{le-ltb, eq-eqb, eqb-true, not-false}
 use lib.Dec.{eqb, ltb}
 use Rattle.word.specs.Choice.{pick}
 use Rattle.word.proofs.Choices.{first, second}
-use Rattle.execute.specs.declared.Source.{Source}
-use Rattle.execute.specs.declared.Source.the-variants.{Fetch}
+use Rattle.meaning.specs.declared.Source.{Source}
+use Rattle.meaning.specs.declared.Source.the-variants.{Fetch}
 use Rattle.hart.specs.Legal.{legal}
 use Rattle.hart.specs.Run.{Run, runFrom, runOf}
 use Rattle.hart.specs.Step.{stepFrom}
 use Rattle.hart.specs.declared.Hart.{Hart}
 use Rattle.hart.proofs.Steps.{step-legal, step-length, run-legal, run-length}
 use Rattle.hart.proofs.Compose.{onward, run-composes}
-use Rattle.machine.specs.Call.{Called, refusalOf, runRefusalOf, refusedWith, takenWith, calledOf, runCall}
-use Rattle.machine.proofs.Accepted.{no-refusal}
+use Rattle.call.specs.Call.{Called, refusalOf, runRefusalOf, refusedWith, takenWith, calledOf, runCall}
+use Rattle.call.proofs.Accepted.{no-refusal}
 
 -- a call's outcome, with k steps that were taken before it
 abbrev pub counted : (k : ℕ) → Called → Called

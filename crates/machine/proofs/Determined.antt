@@ -3,7 +3,7 @@
 -- (docs/PROMISES.md lists them). `one-outcome` puts the two parts of a call together.
 -- Assumes nothing.
 use mathlib.Core.Path.{_≡_, sym, _∙_}
-use Rattle.machine.specs.Call.{Called}
+use Rattle.call.specs.Call.{Called}
 
 pub determined : {A : Type 0} (definition x y : A) → x ≡ definition → y ≡ definition → x ≡ y
 determined definition x y p q = p ∙ sym q

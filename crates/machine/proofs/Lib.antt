@@ -1,4 +1,3 @@
 -- The laws of the calls.
-pub mod Accepted
 pub mod Chained
 pub mod Determined

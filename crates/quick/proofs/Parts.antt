@@ -22,9 +22,9 @@ use Rattle.transfer.specs.declared.access.Gate.{Gate}
 use Rattle.transfer.specs.declared.access.Gate.the-variants.{Open, Off}
 use Rattle.effect.specs.Register.{regOf}
 use Rattle.effect.specs.declared.Setting.{Setting}
-use Rattle.execute.specs.Instruction.{nextOf, executeOf}
-use Rattle.execute.specs.Plan.{wordAt}
-use Rattle.execute.specs.declared.plan.Fetched.the-variants as fetched
+use Rattle.meaning.specs.Instruction.{nextOf, executeOf}
+use Rattle.meaning.specs.Plan.{wordAt}
+use Rattle.meaning.specs.declared.Fetched.the-variants as fetched
 
 -- a load: its register
 pub load-parts : (n : Width) (sign : Bool) (p : Place) (rd a b ssp next : ℕ) (m : List ℕ)

@@ -13,7 +13,7 @@ use Rattle.effect.specs.Register.{putOf}
 use Rattle.effect.specs.declared.Setting.{Setting}
 use Rattle.effect.specs.declared.Effect.{Effect}
 use Rattle.effect.specs.declared.Effect.the-variants.{Write, Jump, Pad, Store, Push, Pop, Swap, Whole, Trap}
-use Rattle.execute.specs.Instruction.{executeOf}
+use Rattle.meaning.specs.Instruction.{executeOf}
 use Rattle.quick.specs.declared.Tried.{Tried}
 
 -- an effect was applied: pc', registers, words and memory are what it says. It never is a trap, nor a jump to a landing pad, nor

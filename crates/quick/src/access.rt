@@ -33,7 +33,7 @@ ghost use Rattle.address.specs.Stack.{pushOf};
 ghost use Rattle.decoder.specs.System.{systemOf};
 ghost use Rattle.place.specs.Place.{placeOf};
 ghost use Rattle.transfer.specs.Access.{atOf};
-ghost use Rattle.execute.specs.Instruction.{nextOf, executeOf};
+ghost use Rattle.meaning.specs.Instruction.{nextOf, executeOf};
 ghost use Rattle.quick.specs.Quick.{Does};
 
 // A load from address a.

@@ -5,7 +5,7 @@ use super::compute;
 use address::Virtual;
 use address::control::Control;
 use effect::Setting;
-use execute::plan::Fetched;
+use meaning::Fetched;
 use place::Place;
 use place::steps;
 ghost use mathlib.Core.Path.{_≡_};
@@ -13,9 +13,9 @@ ghost use Prim.Native.Nat.{_^_, _≤_};
 ghost use lib.ListN.{length, getD};
 ghost use Rattle.address.specs.Control.{bareOf, flatOf};
 ghost use Rattle.decoder.specs.Decode.{decodeOf};
-ghost use Rattle.execute.specs.Instruction.{executeOf};
-ghost use Rattle.execute.specs.Plan.{fetchedOf};
-ghost use Rattle.execute.specs.declared.Source.the-variants.{Fetch};
+ghost use Rattle.meaning.specs.Instruction.{executeOf};
+ghost use Rattle.meaning.specs.Plan.{fetchedOf};
+ghost use Rattle.meaning.specs.declared.Source.the-variants.{Fetch};
 ghost use Rattle.quick.specs.Quick.{Does};
 
 // The word at pc; `bare` says beforehand that fetches are not translated.

@@ -22,16 +22,16 @@ use Rattle.address.specs.declared.control.Control.{Control}
 use Rattle.rights.specs.Enable.{sseOf}
 use Rattle.status.specs.Mode.{modeOf}
 use Rattle.transfer.specs.Access.{readOf, poppedOf}
-use Rattle.execute.specs.Instruction.{nextOf}
+use Rattle.meaning.specs.Instruction.{nextOf}
 use Rattle.effect.specs.declared.Effect.the-variants.{Pop, Trap}
-use Rattle.execute.specs.declared.Source.{Source}
+use Rattle.meaning.specs.declared.Source.{Source}
 use Rattle.hart.proofs.Lawful.{lawful, ssp-eight}
 use Rattle.hart.specs.Legal.{legal}
 use Rattle.regime.specs.Regime.{controlOf, shadowOn}
 use Rattle.bank.specs.Setting.{settingOf}
 use Rattle.hart.specs.Step.{trapsOf, stepFrom}
 use Rattle.hart.specs.declared.Hart.{Hart}
-use Rattle.machine.proofs.Accepted.{no-refusal}
+use Rattle.call.proofs.Accepted.{no-refusal}
 use Rattle.shadow.specs.Promise.{inForce, StandsOnce, Starts, Event, Stretch, start, step, Shadow, unmatched, PopCheck, Permitted, matchOf, Promise, Claim}
 use Rattle.shadow.proofs.Geometry.{Geometry}
 use Rattle.shadow.proofs.Invariant.{inv-start}

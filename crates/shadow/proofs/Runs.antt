@@ -12,15 +12,15 @@ use native.Mathlib.Omega.{arith}
 use borrow.Author.Tests.{le-ltb}
 use Rattle.word.specs.Choice.{pick}
 use Rattle.effect.specs.declared.Effect.{Effect}
-use Rattle.execute.specs.declared.Source.{Source}
-use Rattle.execute.specs.declared.Source.the-variants.{Fetch}
+use Rattle.meaning.specs.declared.Source.{Source}
+use Rattle.meaning.specs.declared.Source.the-variants.{Fetch}
 use Rattle.hart.proofs.Compose.{onward, run-composes}
 use Rattle.hart.proofs.Turns.{one-step}
 use Rattle.hart.specs.Run.{Run, once, runFrom, runOf}
 use Rattle.hart.specs.Step.{planOf, stepFrom}
 use Rattle.hart.specs.declared.Hart.{Hart}
 use Rattle.machine.proofs.Chained.{step-accepted}
-use Rattle.machine.specs.Call.{Called, refusalOf, runRefusalOf, stepFromCall, runCall}
+use Rattle.call.specs.Call.{Called, refusalOf, runRefusalOf, stepFromCall, runCall}
 use Rattle.shadow.specs.Promise.{Starts, Event, eventOf, NoSwap, NoPointerWrite, Stretch, start, step, Promise}
 use Rattle.shadow.proofs.Demand.{shadow-stack}
 

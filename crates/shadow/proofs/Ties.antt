@@ -24,14 +24,14 @@ use Rattle.csr.specs.declared.Csr.the-variants.{Ssp}
 use Rattle.address.specs.Stack.{pushOf}
 use Rattle.place.specs.declared.Physical.{Physical}
 use Rattle.transfer.specs.Access.{readOf, poppedOf, doneOf, atOf, passedOf, accessOf}
-use Rattle.execute.specs.Instruction.{nextOf, executeOf}
-use Rattle.execute.specs.Plan.{fetchedOf, isPad, landedOf, arrivedOf, effectOf}
+use Rattle.meaning.specs.Instruction.{nextOf, executeOf}
+use Rattle.meaning.specs.Plan.{fetchedOf, isPad, landedOf, arrivedOf, effectOf}
 use Rattle.effect.specs.Register.{regOf}
 use Rattle.effect.specs.declared.Effect.the-variants.{Push, Pop, Swap, Trap}
 use Rattle.effect.specs.declared.Effect.the-variants as effect
-use Rattle.execute.specs.declared.Source.{Source}
+use Rattle.meaning.specs.declared.Source.{Source}
 use Rattle.effect.specs.declared.Whole.the-variants as whole
-use Rattle.execute.specs.declared.plan.Fetched.the-variants.{Word}
+use Rattle.meaning.specs.declared.Fetched.the-variants.{Word}
 use Rattle.bank.specs.Setting.{settingOf}
 use Rattle.hart.specs.Step.{planOf}
 use Rattle.hart.specs.declared.Hart.{Hart}

@@ -29,11 +29,11 @@ use Rattle.rights.specs.Reach.{reachOf}
 use Rattle.csr.specs.declared.Csr.the-variants.{Ssp}
 use Rattle.transfer.specs.Access.{doneOf, atOf, passedOf, accessOf}
 use Rattle.effect.specs.Csrs as csrs
-use Rattle.execute.specs.Instruction.{executeOf}
-use Rattle.execute.specs.Plan.{fetchedOf, landedOf, arrivedOf, effectOf}
+use Rattle.meaning.specs.Instruction.{executeOf}
+use Rattle.meaning.specs.Plan.{fetchedOf, landedOf, arrivedOf, effectOf}
 use Rattle.effect.specs.declared.Effect.{Effect}
 use Rattle.effect.specs.declared.Effect.the-variants.{Store, Swap, Whole}
-use Rattle.execute.specs.declared.Source.the-variants.{Given}
+use Rattle.meaning.specs.declared.Source.the-variants.{Given}
 use Rattle.effect.specs.declared.Whole.the-variants.{Csr}
 use Rattle.bank.specs.Access.{shownOf, writtenOf}
 use Rattle.hart.specs.Access.{csrWriteOf}
@@ -45,7 +45,7 @@ use Rattle.bank.specs.Setters.{withSatp, withSenvcfg}
 use Rattle.hart.specs.Setters.{withPc, withMode, withSsp, withCsrs}
 use Rattle.hart.specs.Step.{withReg, changedOf, csrOf, wholeOf, planOf, stepFrom}
 use Rattle.hart.specs.declared.Hart.{Hart}
-use Rattle.machine.specs.Call.{refusalOf}
+use Rattle.call.specs.Call.{refusalOf}
 use Rattle.shadow.specs.Promise.{inForce, StandsOnce, Starts, quiet, NoSwap, NoPointerWrite, Stretch, start, pushes, pops, Shadow, latest, PopCheck, Permitted, unmatched, Promise}
 use Rattle.shadow.proofs.Witness.{memory₀, map₀, hart₀, once₀, no-swap, no-pointer-write, then}
 

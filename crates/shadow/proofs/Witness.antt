@@ -22,13 +22,13 @@ use Rattle.place.specs.Place.{withinOf, insideOf, settleOf, throughOf, pagedPla
 use Rattle.address.specs.declared.control.Control.{Control}
 use Rattle.status.specs.Mode.{modeOf}
 use Rattle.transfer.specs.Access.{poppedOf, doneOf, atOf, passedOf, accessOf}
-use Rattle.execute.specs.Instruction.{executeOf}
-use Rattle.execute.specs.Plan.{fetchedOf, landedOf, arrivedOf, effectOf}
+use Rattle.meaning.specs.Instruction.{executeOf}
+use Rattle.meaning.specs.Plan.{fetchedOf, landedOf, arrivedOf, effectOf}
 use Rattle.effect.specs.declared.Effect.{Effect}
 use Rattle.effect.specs.declared.Effect.the-variants.{Write, Jump, Pad, Store, Push, Pop, Swap, Trap}
 use Rattle.effect.specs.declared.Effect.the-variants as effect
-use Rattle.execute.specs.declared.Source.{Source}
-use Rattle.execute.specs.declared.Source.the-variants.{Fetch}
+use Rattle.meaning.specs.declared.Source.{Source}
+use Rattle.meaning.specs.declared.Source.the-variants.{Fetch}
 use Rattle.bank.specs.Legal.{csrsLegal}
 use Rattle.hart.specs.Legal.{legal}
 use Rattle.regime.specs.Regime.{controlOf, shadowOn, padOn}
@@ -39,7 +39,7 @@ use Rattle.transfer.specs.Commit.{memoryOf}
 use Rattle.hart.specs.Step.{applyOf, trapsOf, planOf, stepFrom}
 use Rattle.hart.specs.Trap.{trapOf}
 use Rattle.hart.specs.declared.Hart.{Hart}
-use Rattle.machine.specs.Call.{refusalOf}
+use Rattle.call.specs.Call.{refusalOf}
 use Rattle.shadow.specs.Promise.{inForce, StandsOnce, Starts, Event, pushed, popped, quiet, eventOf, NoSwap, NoPointerWrite, Stretch, start, step, Shadow, PopCheck, Permitted, unmatched, matchOf}
 use Rattle.shadow.proofs.Demand.{shadow-stack}
 

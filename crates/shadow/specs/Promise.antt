@@ -36,18 +36,18 @@ use Rattle.place.specs.declared.Place.the-variants.{At}
 use Rattle.rights.specs.Enable.{sseOf}
 use Rattle.csr.specs.declared.Csr.the-variants.{Ssp}
 use Rattle.transfer.specs.Access.{readOf}
-use Rattle.execute.specs.Plan.{fetchedOf, isPad}
+use Rattle.meaning.specs.Plan.{fetchedOf, isPad}
 use Rattle.effect.specs.Register.{regOf}
 use Rattle.effect.specs.declared.Effect.{Effect}
 use Rattle.effect.specs.declared.Effect.the-variants.{Write, Jump, Pad, Store, Push, Pop, Swap, Trap}
 use Rattle.effect.specs.declared.Effect.the-variants as effect
-use Rattle.execute.specs.declared.Source.{Source}
+use Rattle.meaning.specs.declared.Source.{Source}
 use Rattle.effect.specs.declared.Whole.the-variants as whole
-use Rattle.execute.specs.declared.plan.Fetched.the-variants.{Word}
+use Rattle.meaning.specs.declared.Fetched.the-variants.{Word}
 use Rattle.bank.specs.Setting.{settingOf}
 use Rattle.hart.specs.Step.{planOf, stepFrom}
 use Rattle.hart.specs.declared.Hart.{Hart}
-use Rattle.machine.specs.Call.{refusalOf}
+use Rattle.call.specs.Call.{refusalOf}
 
 -- what the mode and the CSRs say about accesses: the regime in force
 abbrev pub inForce : Hart → Control

@@ -6,12 +6,12 @@ use mathlib.Core.Path.{_≡_}
 use Prim.Native.Nat.{ℕ}
 use lib.Dec.{eqb}
 use lib.ListN.{length}
-use Rattle.execute.specs.declared.Source.{Source}
+use Rattle.meaning.specs.declared.Source.{Source}
 use Rattle.hart.specs.Run.{Run, runFrom, toldOf}
 use Rattle.hart.specs.Setters.{hartOf}
 use Rattle.hart.specs.Words.{flagOf, restOf}
 use Rattle.hart.specs.declared.engine.Told.{Told}
-use Rattle.machine.specs.Call.{runRefusalOf}
+use Rattle.call.specs.Call.{runRefusalOf}
 use Rattle.sporhulma.specs.Boundary.{Left, leftFrom}
 use Rattle.sporhulma.specs.Words.{noHart}
 use Rattle.sporhulma.proofs.Kept.{words-back}

@@ -8,11 +8,11 @@ use Prim.Native.Nat.{ℕ}
 use borrow.Author.Tests.{ltb-false}
 use lib.Dec.{eqb}
 use lib.ListN.{length, getD}
-use Rattle.execute.specs.declared.Source.the-variants.{Fetch, Given}
+use Rattle.meaning.specs.declared.Source.the-variants.{Fetch, Given}
 use Rattle.hart.specs.Run.{Run, once, runOf}
 use Rattle.hart.specs.Step.{stepFrom}
 use Rattle.hart.specs.Setters.{hartOf}
-use Rattle.machine.specs.Call.{calledOf, refusalOf, runRefusalOf, stepFromCall, runCall}
+use Rattle.call.specs.Call.{calledOf, refusalOf, runRefusalOf, stepFromCall, runCall}
 use Rattle.sporhulma.specs.Boundary.{Left, leftBy, leftOf, stepLeft, stepWordLeft, runLeft}
 use Rattle.hart.specs.Words.{restOf}
 use Rattle.hart.proofs.Worded.{same-words}

@@ -4,11 +4,11 @@
 use mathlib.Core.List.{List, [], _∷_}
 use Prim.Native.Nat.{ℕ}
 use Rattle.word.specs.Choice.{pick}
-use Rattle.execute.specs.declared.Source.{Source}
+use Rattle.meaning.specs.declared.Source.{Source}
 use Rattle.hart.specs.Run.{runFrom}
 use Rattle.hart.specs.Setters.{hartOf}
 use Rattle.hart.specs.Words.{flagOf, restOf}
-use Rattle.machine.specs.Call.{Called, runRefusalOf, calledOf, stepCall, stepWordCall, runCall}
+use Rattle.call.specs.Call.{Called, runRefusalOf, calledOf, stepCall, stepWordCall, runCall}
 use Rattle.sporhulma.specs.Words.{noHart}
 
 -- what a call leaves: its result, the hart's words, the three words of its answer (count, trapped, cause), and memory

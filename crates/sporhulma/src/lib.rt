@@ -2,9 +2,9 @@
 //
 // A hart is the words x and rest. Anything may be handed in; what a call leaves of every word and byte is stated in
 // specs/Boundary.antt.
-use execute::Source;
 use hart::engine;
 use hart::words;
+use meaning::Source;
 ghost use mathlib.Core.Path.{_≡_};
 ghost use mathlib.Core.List.{[], _∷_};
 ghost use Rattle.sporhulma.specs.Words.{noHart};
@@ -46,7 +46,7 @@ fn call(
         return refused(1, answer);
     }
     words::twenty(*rest);
-    let n = machine::words::refusal(x, rest, mem, map, budget);
+    let n = call::words::refusal(x, rest, mem, map, budget);
     if n == 0 {
         let t = engine::run(x, rest, source, mem, map, budget);
         *answer = [t.count, words::flag(t.trapped), t.cause];

@@ -1,7 +1,7 @@
 -- `handler::handle` meets its contract: three of the rows of `csrs`, and every other word is left. Assumes nothing.
 use native.Mathlib.Omega.{arith}
 use borrow.Author.Needs.{needs}
-use Rattle.execute.specs.Instruction.{executeOf, nextOf}
+use Rattle.meaning.specs.Instruction.{executeOf, nextOf}
 use Rattle.handler.proofs.Decoding.{decoded}
 use Rattle.handler.proofs.handle.Statement.{statement}
 use Rattle.handler.proofs.handle.Tie as tie

@@ -1,8 +1,8 @@
 -- `machine::run` meets its contract: where no refusal applies, the hart's run. Assumes nothing.
 use borrow.Author.Tests.{ne-eqb}
 use mathlib.Core.Path.{refl, sym, _∙_}
-use Rattle.machine.specs.Call.{runCall}
-use Rattle.machine.proofs.Accepted.{small, run-no-refusal}
+use Rattle.call.specs.Call.{runCall}
+use Rattle.call.proofs.Accepted.{small, run-no-refusal}
 use borrow.Author.Needs.{needs}
 use Rattle.machine.proofs.run.Statement.{statement}
 use Rattle.machine.proofs.run.Tie as tie

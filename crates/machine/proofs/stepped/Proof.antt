@@ -1,8 +1,8 @@
 -- `machine::stepped` meets its contract: where no refusal applies, the hart's step. Assumes nothing.
 use borrow.Author.Tests.{ne-eqb}
 use mathlib.Core.Path.{refl, sym, _∙_}
-use Rattle.machine.specs.Call.{stepFromCall}
-use Rattle.machine.proofs.Accepted.{small}
+use Rattle.call.specs.Call.{stepFromCall}
+use Rattle.call.proofs.Accepted.{small}
 use borrow.Author.Needs.{needs}
 use Rattle.machine.proofs.stepped.Statement.{statement}
 use Rattle.machine.proofs.stepped.Tie as tie

@@ -3,7 +3,7 @@ use borrow.Author.Tests.{ne-eqb, ltb-false}
 use mathlib.Core.Path.{refl, sym, _∙_}
 use Rattle.hart.specs.Run.{Run, runFrom}
 use Rattle.hart.specs.Setters.{hartOf}
-use Rattle.machine.proofs.Accepted.{small, run-no-refusal}
+use Rattle.call.proofs.Accepted.{small, run-no-refusal}
 use Rattle.sporhulma.proofs.Answered.{no-hart, taken, refused, told}
 use borrow.Author.Needs.{needs}
 use Rattle.sporhulma.proofs.call.Statement.{statement}

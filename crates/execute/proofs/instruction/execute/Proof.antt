@@ -1,5 +1,5 @@
 -- `execute::instruction::execute` meets its contract: an instruction an arm. Assumes nothing.
-use Rattle.execute.specs.Instruction.{executeOf}
+use Rattle.meaning.specs.Instruction.{executeOf}
 use borrow.Author.Needs.{needs}
 use Rattle.execute.proofs.instruction.execute.Statement.{statement}
 use Rattle.execute.proofs.instruction.execute.Tie as tie

@@ -1,7 +1,7 @@
 -- `execute::plan::fetch` meets its contract: by the source and the place. Assumes nothing.
 use mathlib.Core.Path.{sym, _∙_}
 use Rattle.place.proofs.Reach.{place-within, place-index}
-use Rattle.execute.specs.Plan.{fetchedOf}
+use Rattle.meaning.specs.Plan.{fetchedOf}
 use borrow.Author.Needs.{needs}
 use Rattle.execute.proofs.plan.fetch.Statement.{statement}
 use Rattle.execute.proofs.plan.fetch.Tie as tie

@@ -1,5 +1,5 @@
 -- `execute::plan::landed` meets its contract: the landing pad check, then the instruction. Assumes nothing.
-use Rattle.execute.specs.Plan.{landedOf}
+use Rattle.meaning.specs.Plan.{landedOf}
 use mathlib.Core.Path.{sym, _∙_}
 use borrow.Author.Needs.{needs}
 use Rattle.execute.proofs.plan.landed.Statement.{statement}

@@ -1,6 +1,6 @@
 -- `execute::plan::plan` meets its contract: the fetch, and then the word. Assumes nothing.
 use mathlib.Core.Path.{sym, _∙_}
-use Rattle.execute.specs.Plan.{effectOf, arrivedOf}
+use Rattle.meaning.specs.Plan.{effectOf, arrivedOf}
 use borrow.Author.Needs.{needs}
 use Rattle.execute.proofs.plan.plan.Statement.{statement}
 use Rattle.execute.proofs.plan.plan.Tie as tie

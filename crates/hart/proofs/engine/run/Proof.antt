@@ -6,8 +6,8 @@ use mathlib.Core.Path.{_≡_, refl, sym, _∙_, subst}
 use Prim.Native.Nat.{ℕ, _-_, _<_}
 use lib.ListN.{length, getD}
 use native.Mathlib.Omega.{arith}
-use Rattle.execute.proofs.Stays.{effect-stays}
-use Rattle.execute.specs.declared.Source.the-variants.{Fetch}
+use Rattle.meaning.proofs.Stays.{effect-stays}
+use Rattle.meaning.specs.declared.Source.the-variants.{Fetch}
 use Rattle.effect.proofs.Stays.{fits}
 use Rattle.effect.specs.Effect.{Stays}
 use Rattle.effect.specs.declared.Effect.{Effect}

@@ -1,7 +1,7 @@
 -- `hart::glide::steps` meets its contract: what is left after each turn, run, gives the whole. Assumes nothing.
 use mathlib.Core.Path.{_≡_, refl, sym, _∙_}
 use lib.ListN.{length}
-use Rattle.execute.specs.declared.Source.the-variants.{Fetch}
+use Rattle.meaning.specs.declared.Source.the-variants.{Fetch}
 use Rattle.hart.specs.Glide.{hartAt, saidOf, Straight}
 use Rattle.hart.specs.Run.{runFrom, Midway}
 use Rattle.hart.proofs.Turns.{start, again}

@@ -1,7 +1,7 @@
 -- `quick::access::load` meets its contract: the access of a load. Assumes nothing.
 use Rattle.base.specs.Base.{loadOf}
 use Rattle.transfer.specs.Access.{accessOf, passedOf}
-use Rattle.execute.specs.Instruction.{executeOf}
+use Rattle.meaning.specs.Instruction.{executeOf}
 use Rattle.quick.proofs.Ways.{read, does-as, undone-does}
 use Rattle.quick.proofs.Parts.{load-parts}
 use borrow.Author.Needs.{needs}

@@ -1,7 +1,7 @@
 -- `quick::access::store` meets its contract: the access of a store. Assumes nothing.
 use Rattle.base.specs.Base.{storeOf}
 use Rattle.transfer.specs.Access.{accessOf, passedOf}
-use Rattle.execute.specs.Instruction.{executeOf}
+use Rattle.meaning.specs.Instruction.{executeOf}
 use Rattle.quick.proofs.Ways.{read, does-as, undone-does}
 use Rattle.quick.proofs.Parts.{store-parts}
 use borrow.Author.Needs.{needs}

@@ -1,6 +1,6 @@
 -- `quick::compute::jal` meets its contract: a jump to its target. Assumes nothing.
 use Rattle.quick.proofs.Ways.{does-as}
-use Rattle.execute.specs.Instruction.{executeOf}
+use Rattle.meaning.specs.Instruction.{executeOf}
 use borrow.Author.Needs.{needs}
 use Rattle.quick.proofs.compute.jal.Statement.{statement}
 use Rattle.quick.proofs.compute.jal.Tie as tie

@@ -1,7 +1,7 @@
 -- `quick::compute::jalr` meets its contract: the landing pad, then the jump. Assumes nothing.
 use Rattle.base.specs.Base.{jalrOf}
 use Rattle.effect.specs.Jump.{jalrOf as jumpOf}
-use Rattle.execute.specs.Instruction.{executeOf}
+use Rattle.meaning.specs.Instruction.{executeOf}
 use Rattle.quick.proofs.Ways.{read, undone-does, padless}
 use borrow.Author.Needs.{needs}
 use Rattle.quick.proofs.compute.jalr.Statement.{statement}

@@ -1,5 +1,5 @@
 -- `quick::compute::lui` meets its contract: a register written. Assumes nothing.
-use Rattle.execute.specs.Instruction.{executeOf}
+use Rattle.meaning.specs.Instruction.{executeOf}
 use Rattle.quick.proofs.Ways.{wrote-does}
 use borrow.Author.Needs.{needs}
 use Rattle.quick.proofs.compute.lui.Statement.{statement}

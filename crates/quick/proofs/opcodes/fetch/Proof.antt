@@ -1,7 +1,7 @@
 -- `quick::opcodes::fetch` meets its contract: by the place. Assumes nothing.
 use mathlib.Core.Path.{sym, _∙_}
 use Rattle.place.proofs.Reach.{place-within, place-index}
-use Rattle.execute.specs.Plan.{fetchedOf}
+use Rattle.meaning.specs.Plan.{fetchedOf}
 use Rattle.quick.proofs.Parts.{word-at, fault-at}
 use borrow.Author.Needs.{needs}
 use Rattle.quick.proofs.opcodes.fetch.Statement.{statement}

@@ -15,7 +15,7 @@ use Rattle.memory.proofs.Accepted.{accepted}
 use Rattle.page.specs.Map as page
 use Rattle.hart.specs.Legal.{legal}
 use Rattle.hart.specs.declared.Hart.{Hart}
-use Rattle.machine.specs.Call.{refusalOf, runRefusalOf}
+use Rattle.call.specs.Call.{refusalOf, runRefusalOf}
 
 none : (a b c : Bool) → _≡_ {A = ℕ} (pick a 1 (pick b 2 (pick c 3 0))) 0 → (a ≡ false) × (b ≡ false) × (c ≡ false)
 none true b c e = absurd (omega (arith, e))

@@ -10,13 +10,13 @@ use lib.ListN.{length}
 use Rattle.word.specs.Choice.{pick}
 use Rattle.memory.specs.Refusal as memory
 use Rattle.page.specs.Map as page
-use Rattle.execute.specs.declared.Source.{Source}
-use Rattle.execute.specs.declared.Source.the-variants.{Fetch, Given}
+use Rattle.meaning.specs.declared.Source.{Source}
+use Rattle.meaning.specs.declared.Source.the-variants.{Fetch, Given}
 use Rattle.hart.specs.Legal.{legal}
 use Rattle.hart.specs.Run.{Run, once, runOf}
 use Rattle.hart.specs.Step.{stepFrom}
 use Rattle.hart.specs.declared.Hart.{Hart}
-use Rattle.machine.specs.declared.Answer.{Answer}
+use Rattle.call.specs.declared.Answer.{Answer}
 
 -- refusals 1 to 3, the lowest number that applies; 0 if none does
 unfoldable pub refusalOf : Hart → (m map : List ℕ) → ℕ

@@ -8,11 +8,11 @@ ghost use Prim.Native.Nat.{_≤_};
 ghost use Rattle.lines.specs.Most.{most};
 ghost use lib.ListN.{length};
 use acts::state;
+use call::Answer;
 use hart::Hart;
 use hart::words;
 use lines::line::MOST;
 use lines::row;
-use machine::Answer;
 use scene::Difference;
 
 // How many numbers are wanted before the pairs.

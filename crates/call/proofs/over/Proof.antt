@@ -1,7 +1,7 @@
--- `machine::over` meets its contract: one comparison. Assumes nothing.
+-- `call::over` meets its contract: one comparison. Assumes nothing.
 use borrow.Author.Tests.{lt-ltb, le-ltb}
-use Rattle.machine.proofs.over.Statement.{statement}
-use Rattle.machine.proofs.over.Tie as tie
+use Rattle.call.proofs.over.Statement.{statement}
+use Rattle.call.proofs.over.Tie as tie
 
 returns : tie.Need-returns
 returns c = rw (lt-ltb 1000000 _ (c .if1 .taken))

@@ -1,8 +1,8 @@
--- `machine::refusal` meets its contract: the three tests, lowest first. Assumes nothing.
-use Rattle.machine.specs.Call.{refusalOf}
+-- `call::refusal` meets its contract: the three tests, lowest first. Assumes nothing.
+use Rattle.call.specs.Call.{refusalOf}
 use borrow.Author.Needs.{needs}
-use Rattle.machine.proofs.refusal.Statement.{statement}
-use Rattle.machine.proofs.refusal.Tie as tie
+use Rattle.call.proofs.refusal.Statement.{statement}
+use Rattle.call.proofs.refusal.Tie as tie
 
 legal-requires : tie.Need-legal-requires
 legal-requires c κs = search needs

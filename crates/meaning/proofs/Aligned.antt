@@ -32,21 +32,21 @@ use Rattle.rights.specs.declared.reach.Reached.the-variants as reached
 use Rattle.transfer.specs.Access.{gateOf, addressOf, readOf, poppedOf, doneOf, atOf, passedOf, accessOf}
 use Rattle.effect.specs.Compute.{conditionOf}
 use Rattle.effect.specs.Csrs.{reachedOf, csrOf}
-use Rattle.execute.specs.Instruction.{nextOf, executeOf}
+use Rattle.meaning.specs.Instruction.{nextOf, executeOf}
 use Rattle.effect.specs.Jump.{evenOf, jalOf, jalrOf, branchOf}
-use Rattle.execute.specs.Plan.{fetchedOf, isPad, landedOf, arrivedOf, effectOf}
+use Rattle.meaning.specs.Plan.{fetchedOf, isPad, landedOf, arrivedOf, effectOf}
 use Rattle.effect.specs.Register.{regOf}
 use Rattle.effect.specs.System.{mretOf, sretOf}
 use Rattle.effect.specs.declared.Effect.{Effect}
 use Rattle.effect.specs.declared.Effect.the-variants as effect
 use Rattle.effect.specs.declared.Setting.{Setting}
-use Rattle.execute.specs.declared.Source.{Source}
+use Rattle.meaning.specs.declared.Source.{Source}
 use Rattle.effect.specs.declared.Whole.{Whole}
 use Rattle.effect.specs.declared.Whole.the-variants as whole
 use Rattle.transfer.specs.declared.access.Gate.{Gate}
 use Rattle.transfer.specs.declared.access.Gate.the-variants as gate
-use Rattle.execute.specs.declared.plan.Fetched.{Fetched}
-use Rattle.execute.specs.declared.plan.Fetched.the-variants as fetched
+use Rattle.meaning.specs.declared.Fetched.{Fetched}
+use Rattle.meaning.specs.declared.Fetched.the-variants as fetched
 
 -- where it says to what pc the hart goes: a return and a trap leave that to the CSRs
 abbrev pub WholeAligned : Whole → Type 0

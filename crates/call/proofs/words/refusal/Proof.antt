@@ -1,11 +1,11 @@
--- `machine::words::refusal` meets its contract: refusals 1 to 3, and refusal 4 where they do not apply. Assumes nothing.
+-- `call::words::refusal` meets its contract: refusals 1 to 3, and refusal 4 where they do not apply. Assumes nothing.
 use borrow.Author.Tests.{ne-eqb}
 use mathlib.Core.Path.{_≡_, sym, _∙_}
 use Rattle.hart.specs.Setters.{hartOf}
-use Rattle.machine.specs.Call.{refusalOf, runRefusalOf}
+use Rattle.call.specs.Call.{refusalOf, runRefusalOf}
 use borrow.Author.Needs.{needs}
-use Rattle.machine.proofs.words.refusal.Statement.{statement}
-use Rattle.machine.proofs.words.refusal.Tie as tie
+use Rattle.call.proofs.words.refusal.Statement.{statement}
+use Rattle.call.proofs.words.refusal.Tie as tie
 
 -- refusals 1 to 3
 low : (c : tie.After-lowest)

@@ -1,10 +1,10 @@
--- `machine::run_refusal` meets its contract: refusal 4 where the others do not apply. Assumes nothing.
+-- `call::run_refusal` meets its contract: refusal 4 where the others do not apply. Assumes nothing.
 use borrow.Author.Tests.{ne-eqb}
 use mathlib.Core.Path.{sym, _∙_}
-use Rattle.machine.specs.Call.{runRefusalOf}
+use Rattle.call.specs.Call.{runRefusalOf}
 use borrow.Author.Needs.{needs}
-use Rattle.machine.proofs.run_refusal.Statement.{statement}
-use Rattle.machine.proofs.run_refusal.Tie as tie
+use Rattle.call.proofs.run_refusal.Statement.{statement}
+use Rattle.call.proofs.run_refusal.Tie as tie
 
 refusal-requires : tie.Need-refusal-requires
 refusal-requires c κs = search needs

@@ -5,7 +5,7 @@ use hart::legal;
 use page::map;
 ghost use mathlib.Core.Path.{_≡_};
 ghost use Rattle.hart.specs.Setters.{hartOf};
-ghost use Rattle.machine.specs.Call.{runRefusalOf};
+ghost use Rattle.call.specs.Call.{runRefusalOf};
 
 // The lowest number that applies to a run, or 0.
 pub fn refusal(x: &[u64; 32], rest: &[u64; 20], mem: &[u8], map: &[u64], budget: u64) -> u64

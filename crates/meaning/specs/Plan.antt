@@ -14,13 +14,13 @@ use Rattle.address.specs.declared.control.Control.{Control}
 use Rattle.place.specs.declared.Place.{Place}
 use Rattle.place.specs.declared.Place.the-variants as place
 use Rattle.transfer.specs.Access.{readOf}
-use Rattle.execute.specs.Instruction.{nextOf, executeOf}
+use Rattle.meaning.specs.Instruction.{nextOf, executeOf}
 use Rattle.effect.specs.Register.{regOf}
 use Rattle.effect.specs.declared.Setting.{Setting}
-use Rattle.execute.specs.declared.Source.{Source}
-use Rattle.execute.specs.declared.Source.the-variants as source
-use Rattle.execute.specs.declared.plan.Fetched.{Fetched}
-use Rattle.execute.specs.declared.plan.Fetched.the-variants as fetched
+use Rattle.meaning.specs.declared.Source.{Source}
+use Rattle.meaning.specs.declared.Source.the-variants as source
+use Rattle.meaning.specs.declared.Fetched.{Fetched}
+use Rattle.meaning.specs.declared.Fetched.the-variants as fetched
 use Rattle.effect.specs.declared.Effect.{Effect}
 use Rattle.effect.specs.declared.Effect.the-variants.{Pad, Trap}
 

@@ -32,18 +32,18 @@ use Rattle.effect.specs.Compute.{conditionOf}
 use Rattle.effect.specs.Csrs.{reachedOf, csrOf}
 use Rattle.place.specs.Place.{Within}
 use Rattle.effect.specs.Effect.{Stays}
-use Rattle.execute.specs.Instruction.{executeOf}
+use Rattle.meaning.specs.Instruction.{executeOf}
 use Rattle.effect.specs.Jump.{evenOf, jalOf, jalrOf, branchOf}
-use Rattle.execute.specs.Plan.{fetchedOf, isPad, landedOf, arrivedOf, effectOf}
+use Rattle.meaning.specs.Plan.{fetchedOf, isPad, landedOf, arrivedOf, effectOf}
 use Rattle.effect.specs.Register.{regOf}
 use Rattle.effect.specs.System.{mretOf, sretOf}
 use Rattle.effect.specs.declared.Effect.{Effect}
 use Rattle.effect.specs.declared.Setting.{Setting}
-use Rattle.execute.specs.declared.Source.{Source}
+use Rattle.meaning.specs.declared.Source.{Source}
 use Rattle.transfer.specs.declared.access.Gate.{Gate}
 use Rattle.transfer.specs.declared.access.Gate.the-variants as gate
-use Rattle.execute.specs.declared.plan.Fetched.{Fetched}
-use Rattle.execute.specs.declared.plan.Fetched.the-variants as fetched
+use Rattle.meaning.specs.declared.Fetched.{Fetched}
+use Rattle.meaning.specs.declared.Fetched.the-variants as fetched
 
 -- of two effects that stay in memory, either
 chosen : (b : Bool) (e f : Effect) (len : ℕ) → Stays e len → Stays f len → Stays (pick b e f) len
