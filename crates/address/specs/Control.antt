@@ -1,7 +1,8 @@
--- Step 1, the effective mode, and what goes by it: which PMM counts, whether Sv39 is in force, and where neither concerns an access.
+-- Step 1, the effective mode, and what goes by it: which PMM counts, whether Sv39 is in force, and where neither concerns an access;
+-- and which accesses are not masked at all.
 --
 -- Below, c is what the hart's mode and CSRs say about accesses, and m the effective mode.
-use mathlib.Core.Bool.{Bool, false, _&&_, not}
+use mathlib.Core.Bool.{Bool, true, false, _&&_, _||_, not}
 use Prim.Native.Nat.{ℕ}
 use lib.Dec.{eqb}
 use Rattle.word.specs.Choice.{pick}
@@ -42,6 +43,24 @@ pagedOf User sv39 = sv39
 pagedOf Supervisor sv39 = sv39
 pagedOf Machine sv39 = false
 
+-- in M with MPRV and MXR both set, whatever MPP is (request A2)
+abbrev pub liftedOf : (mode : Mode) → (mprv mxr : Bool) → Bool
+liftedOf User mprv mxr = false
+liftedOf Supervisor mprv mxr = false
+liftedOf Machine mprv mxr = mprv && mxr
+
+-- which accesses step 2 does not mask: fetches; and loads, stores and swaps where masking is lifted
+abbrev pub unmaskedFor : Kind → (lifted : Bool) → Bool
+unmaskedFor Fetch lifted = true
+unmaskedFor Load lifted = lifted
+unmaskedFor Store lifted = lifted
+unmaskedFor Push lifted = false
+unmaskedFor Pop lifted = false
+unmaskedFor Swap lifted = lifted
+
+abbrev pub unmaskedOf : Control → Kind → Bool
+unmaskedOf c k = unmaskedFor k (liftedOf (c .mode) (c .mprv) (c .mxr))
+
 -- what a leaf is judged by
 abbrev pub regimeOf : Control → Mode → Regime
 regimeOf c m = record { mode = m; sum = c .sum; mxr = c .mxr; sse = c .sse }
@@ -50,6 +69,8 @@ regimeOf c m = record { mode = m; sum = c .sum; mxr = c .mxr; sse = c .sse }
 unfoldable pub bareOf : Control → Bool
 bareOf c = not (pagedOf (modeOf c Fetch) (c .sv39))
 
--- loads and stores, which have one effective mode, are neither translated nor masked
+-- loads and stores, which have one effective mode, are neither translated nor masked: masking is lifted, or masks no bit
 unfoldable pub flatOf : Control → Bool
-flatOf c = not (pagedOf (modeOf c Load) (c .sv39)) && eqb (pmmOf (modeOf c Load) (c .upmm) (c .spmm) (c .mpmm)) 0
+flatOf c =
+    not (pagedOf (modeOf c Load) (c .sv39))
+    && (unmaskedOf c Load || eqb (pmmOf (modeOf c Load) (c .upmm) (c .spmm) (c .mpmm)) 0)

@@ -3,10 +3,9 @@ use mathlib.Core.Bool.{Bool}
 use Prim.Native.Nat.{ℕ, _-_, _%_, _^_}
 use Rattle.word.specs.Choice.{pick, Table, _⇒_¦_, otherwise, look}
 use Rattle.word.specs.Sign.{signExtendOf}
-use Rattle.page.specs.Kinds.{isFetch}
 use Rattle.page.specs.declared.Kind.{Kind}
 use Rattle.page.specs.declared.Mode.{Mode}
-use Rattle.address.specs.Control.{pmmOf, pagedOf}
+use Rattle.address.specs.Control.{pmmOf, pagedOf, unmaskedOf}
 use Rattle.address.specs.declared.control.Control.{Control}
 
 -- PMM 0, 2, 3 mean 0, 7, 16 masked bits; no write leaves a 1
@@ -24,6 +23,6 @@ maskOf p paged a = pick paged (signExtendOf (64 - p) a) (a % 2 ^ (64 - p))
 abbrev pub maskedOf : Control → Mode → ℕ → ℕ
 maskedOf c m a = maskOf (pmlenOf (pmmOf m (c .upmm) (c .spmm) (c .mpmm))) (pagedOf m (c .sv39)) a
 
--- not for fetch
+-- not for fetch, nor where MPRV and MXR lift it
 unfoldable pub transformedOf : Control → Mode → Kind → ℕ → ℕ
-transformedOf c m k a = pick (isFetch k) a (maskedOf c m a)
+transformedOf c m k a = pick (unmaskedOf c k) a (maskedOf c m a)

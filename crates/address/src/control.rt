@@ -1,10 +1,10 @@
 // Step 1, the effective mode of an access, and what goes by it: which PMM counts, whether Sv39 is in force, and where neither
-// concerns an access.
+// concerns an access; and which accesses are not masked at all.
 use page::Kind;
 use page::Mode;
 use page::Regime;
 ghost use mathlib.Core.Path.{_≡_};
-ghost use Rattle.address.specs.Control.{underMprv, effectiveOf, modeOf, pmmOf, pagedOf, regimeOf, bareOf, flatOf};
+ghost use Rattle.address.specs.Control.{underMprv, effectiveOf, modeOf, pmmOf, pagedOf, liftedOf, unmaskedFor, unmaskedOf, regimeOf, bareOf, flatOf};
 
 // What a hart's mode and CSRs say about accesses: sv39 is satp.MODE 8, sse is menvcfg.SSE, and the last three
 // are the PMMs of senvcfg, menvcfg and mseccfg.
@@ -81,6 +81,43 @@ pub fn paged(c: Control, m: Mode) -> bool
     }
 }
 
+// MPRV and MXR together lift masking, in M alone.
+fn lifted(mode: Mode, mprv: bool, mxr: bool) -> bool
+    ensures { λ r. ⌜ r ≡ liftedOf mode mprv mxr ⌝ }
+{
+    match mode {
+        Mode::User => false,
+        Mode::Supervisor => false,
+        Mode::Machine => {
+            if mprv {
+                return mxr;
+            }
+            false
+        }
+    }
+}
+
+fn unmasked_for(k: Kind, lifted: bool) -> bool
+    ensures { λ r. ⌜ r ≡ unmaskedFor k lifted ⌝ }
+{
+    match k {
+        Kind::Fetch => true,
+        Kind::Load => lifted,
+        Kind::Store => lifted,
+        Kind::Push => false,
+        Kind::Pop => false,
+        Kind::Swap => lifted,
+    }
+}
+
+// Whether step 2 leaves an access of this kind as it is.
+pub fn unmasked(c: Control, k: Kind) -> bool
+    ensures { λ r. ⌜ r ≡ unmaskedOf c k ⌝ }
+{
+    let mode = c.mode;
+    unmasked_for(k, lifted(mode, c.mprv, c.mxr))
+}
+
 // What a leaf is judged by in an effective mode.
 pub fn regime(c: Control, m: Mode) -> Regime
     ensures { λ r. ⌜ r ≡ regimeOf c m ⌝ }
@@ -108,6 +145,9 @@ pub fn flat(c: Control) -> bool
     let m = effective(c, Kind::Load);
     if paged(c, m) {
         return false;
+    }
+    if unmasked(c, Kind::Load) {
+        return true;
     }
     pmm(c, m) == 0
 }

@@ -4,7 +4,6 @@ use super::control;
 use super::control::Control;
 use page::Kind;
 use page::Mode;
-use page::kinds;
 ghost use mathlib.Core.Path.{_≡_};
 ghost use Prim.Native.Nat.{_^_, _<_, _≤_};
 ghost use Rattle.address.specs.Mask.{pmlenOf, maskOf, transformedOf};
@@ -45,13 +44,13 @@ pub fn mask(p: u64, paged: bool, a: u64) -> u64
     low
 }
 
-// The transformed address of an access in its effective mode. A fetch is not masked.
+// The transformed address of an access in its effective mode.
 pub fn transform(c: Control, m: Mode, k: Kind, a: Virtual) -> Virtual
     ensures { λ r. ⌜ r .0 ≡ transformedOf c m k (a .0) ⌝ }
 {
     let v = a.0;
     let masked = mask(pmlen(control::pmm(c, m)), control::paged(c, m), v);
-    if kinds::is_fetch(k) {
+    if control::unmasked(c, k) {
         return Virtual(v);
     }
     Virtual(masked)

@@ -1,7 +1,7 @@
 -- Where an access is neither masked nor translated, its place is that of steps 3 and 9 alone.
 -- Assumes nothing.
 use mathlib.Core.Path.{_≡_, refl, sym}
-use mathlib.Core.Bool.{Bool, true, false, not}
+use mathlib.Core.Bool.{Bool, true, false, _||_, not}
 use mathlib.Core.List.{List}
 use Prim.Native.Nat.{ℕ, _^_, _<_}
 use lib.Dec.{eqb}
@@ -16,7 +16,7 @@ use Rattle.page.specs.declared.Mode.{Mode}
 use Rattle.address.proofs.Masking.{mask-none}
 use Rattle.address.specs.Align.{alignedOf}
 use Rattle.address.specs.Cause.{misalignedOf}
-use Rattle.address.specs.Control.{modeOf, pmmOf, pagedOf, bareOf, flatOf}
+use Rattle.address.specs.Control.{modeOf, pmmOf, pagedOf, unmaskedOf, bareOf, flatOf}
 use Rattle.address.specs.Mask.{pmlenOf, transformedOf}
 use Rattle.address.specs.declared.control.Control.{Control}
 use Rattle.place.specs.Place.{insideOf, plainPlaceOf, reachedOf, placeOf, flatPlaceOf}
@@ -46,12 +46,24 @@ data-mode c Push s f = cc
 data-mode c Pop s f = cc
 data-mode c Swap s f = cc
 
--- PMM 0 masks nothing
-unmasked : (c : Control) (m : Mode) (k : Kind) (a : ℕ) → a < 2 ^ 64 → isFetch k ≡ false
-    → pmmOf m (c .upmm) (c .spmm) (c .mpmm) ≡ 0
+-- and masking is lifted from both, or from none
+data-unmasked : (c : Control) (k : Kind) → isShadow k ≡ false → isFetch k ≡ false → unmaskedOf c k ≡ unmaskedOf c Load
+data-unmasked c Fetch s f = cc
+data-unmasked c Load s f = refl
+data-unmasked c Store s f = refl
+data-unmasked c Push s f = cc
+data-unmasked c Pop s f = cc
+data-unmasked c Swap s f = cc
+
+-- where masking is lifted nothing is masked, and by PMM 0 neither
+unmasked : (c : Control) (m : Mode) (k : Kind) (a : ℕ) → a < 2 ^ 64 → (lifted : Bool) → unmaskedOf c k ≡ lifted
+    → (lifted || eqb (pmmOf m (c .upmm) (c .spmm) (c .mpmm)) 0) ≡ true
     → transformedOf c m k a ≡ a
 unfolding transformedOf
-unmasked c m k a h f e = rw (f) (sym (mask-none (pmlenOf (pmmOf m (c .upmm) (c .spmm) (c .mpmm))) (pagedOf m (c .sv39)) a h (rw e)))
+unmasked c m k a h true u e = rw u
+unmasked c m k a h false u e =
+    let z : pmmOf m (c .upmm) (c .spmm) (c .mpmm) ≡ 0 = eqb-true _ _ e in
+    rw u (sym (mask-none (pmlenOf (pmmOf m (c .upmm) (c .spmm) (c .mpmm))) (pagedOf m (c .sv39)) a h (rw z)))
 
 -- in M or Bare the address stays what it is, and an access that is no shadow access has steps 3 and 9 left
 plainly-reached : (c : Control) (m : Mode) (k : Kind) (w : Width) (a : ℕ) (map : List ℕ) (len : ℕ)
@@ -71,6 +83,6 @@ pub data-flat : (c : Control) (k : Kind) (w : Width) (a : ℕ) (map : List ℕ) 
 unfolding placeOf flatOf
 data-flat c k w a map len e s f h =
     let m = modeOf c Load in
-    let b = both (not (pagedOf m (c .sv39))) (eqb (pmmOf m (c .upmm) (c .spmm) (c .mpmm)) 0) e in
-    rw (data-mode c k s f, unmasked c m k a h f (eqb-true _ _ (b .1)))
+    let b = both (not (pagedOf m (c .sv39))) (unmaskedOf c Load || eqb (pmmOf m (c .upmm) (c .spmm) (c .mpmm)) 0) e in
+    rw (data-mode c k s f, unmasked c m k a h (unmaskedOf c Load) (data-unmasked c k s f) (b .1))
     (plainly-reached c m k w a map len s (off _ (b .0)))

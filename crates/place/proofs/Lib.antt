@@ -2,3 +2,4 @@
 pub mod Entry
 pub mod Flat
 pub mod Reach
+pub mod Whole

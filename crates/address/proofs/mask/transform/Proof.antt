@@ -7,11 +7,11 @@ use Rattle.address.proofs.mask.transform.Tie as tie
 
 returns : tie.Need-returns
 unfolding transformedOf
-returns c = rw (sym (c .before .is-fetch .ensures) ∙ c .if1 .taken)
+returns c = rw (sym (c .before .unmasked .ensures) ∙ c .if1 .taken)
 
 returns-2 : tie.Need-returns-2
 unfolding transformedOf
-returns-2 c = let b = c .before .before in rw (sym (c .before .is-fetch .ensures) ∙ c .if1 .left, ← b .before .before .before .pmm .ensures, ← b .before .before .pmlen .ensures .0, ← b .before .paged .ensures) (b .mask .ensures)
+returns-2 c = let b = c .before .before in rw (sym (c .before .unmasked .ensures) ∙ c .if1 .left, ← b .before .before .before .pmm .ensures, ← b .before .before .pmlen .ensures .0, ← b .before .paged .ensures) (b .mask .ensures)
 
 pub transform-spec : {M : Type 1} → statement M
 transform-spec =
