@@ -90,6 +90,8 @@ pub struct Path {
     pub sv39: bool,
     /// The address after masking.
     pub transformed: u64,
+    /// Where masking is lifted (request A2) and would have given another address: that one.
+    pub lifted: Option<u64>,
     pub entry: Option<Entry>,
     pub end: Result<u64, Refused>,
 }
@@ -98,10 +100,12 @@ pub struct Path {
 pub fn follow(hart: &Hart, length: u64, map: &PageMap, access: Access) -> Path {
     let mode = effective_mode(hart, access.kind);
     let sv39 = mode != M && hart.rest[word::SATP] >> 60 == 8;
-    let transformed = match access.kind {
+    let masked = match access.kind {
         Kind::Fetch => access.address,
         _ => masked(access.address, masked_bits(hart, mode), sv39),
     };
+    let lifts = lifts_masking(hart, access.kind);
+    let transformed = if lifts { access.address } else { masked };
     let entry = match sv39 {
         true => map
             .entries
@@ -115,6 +119,7 @@ pub fn follow(hart: &Hart, length: u64, map: &PageMap, access: Access) -> Path {
         mode,
         sv39,
         transformed,
+        lifted: (transformed != masked).then_some(masked),
         entry,
         end: Ok(0),
     };
@@ -122,16 +127,23 @@ pub fn follow(hart: &Hart, length: u64, map: &PageMap, access: Access) -> Path {
     path
 }
 
+/// Whether MPRV is for this access (rule 1): a load, store or swap in M.
+fn under_mprv(hart: &Hart, kind: Kind) -> bool {
+    let moved = matches!(kind, Kind::Load | Kind::Store | Kind::Swap);
+    moved && hart.rest[word::MODE] == M && hart.rest[word::MSTATUS] & MPRV != 0
+}
+
 /// Rule 1.
 fn effective_mode(hart: &Hart, kind: Kind) -> u64 {
-    let mode = hart.rest[word::MODE];
-    let mstatus = hart.rest[word::MSTATUS];
-    match kind {
-        Kind::Load | Kind::Store | Kind::Swap if mode == M && mstatus & MPRV != 0 => {
-            mstatus >> 11 & 3
-        }
-        _ => mode,
+    match under_mprv(hart, kind) {
+        true => hart.rest[word::MSTATUS] >> 11 & 3,
+        false => hart.rest[word::MODE],
     }
+}
+
+/// Whether rule 2 masks nothing, whatever the mode's PMM says: document 02's request A2.
+fn lifts_masking(hart: &Hart, kind: Kind) -> bool {
+    under_mprv(hart, kind) && hart.rest[word::MSTATUS] & MXR != 0
 }
 
 /// How many upper bits the mode's PMM masks (rule 2).
@@ -322,6 +334,41 @@ mod tests {
         assert_eq!(masked(address, 16, false), 0x0000_FFFF_1234_5678);
         assert_eq!(masked(0x5400_0000_8000_1000, 7, true), 0x8000_1000);
         assert_eq!(masked(address, 0, true), address);
+    }
+
+    /// Request A2: the address as transformed, and what masking would have made of it where it is lifted.
+    #[test]
+    #[rustfmt::skip]
+    fn masking_is_lifted_in_m_by_mprv_with_mxr() {
+        use Kind::*;
+        const TAGGED: u64 = 0xABCD_0000_0000_1000;
+        const BOTH: u64 = MPRV | MXR;
+        let spared = (TAGGED, Some(0x1000));
+        for (mode, kind, mstatus, address, expected) in [
+            (M, Load, BOTH, TAGGED, spared),
+            (M, Store, BOTH, TAGGED, spared),
+            (M, Swap, BOTH, TAGGED, spared),
+            (M, Load, BOTH | 1 << 11, TAGGED, spared),
+            (M, Load, BOTH | 3 << 11, TAGGED, spared),
+            (M, Load, BOTH, 0x1000, (0x1000, None)),
+            (M, Load, MPRV, TAGGED, (0x1000, None)),
+            (M, Load, MXR, TAGGED, (0x1000, None)),
+            (S, Load, BOTH, TAGGED, (0x1000, None)),
+            (U, Swap, BOTH, TAGGED, (0x1000, None)),
+            (M, Push, BOTH, TAGGED, (0x1000, None)),
+            (M, Pop, BOTH, TAGGED, (0x1000, None)),
+            (M, Fetch, BOTH, TAGGED, (TAGGED, None)),
+        ] {
+            let mut hart = Hart::fresh();
+            hart.rest[word::MODE] = mode;
+            hart.rest[word::SATP] = 8 << 60;
+            hart.rest[word::MSTATUS] |= mstatus;
+            for csr in [word::SENVCFG, word::MENVCFG, word::MSECCFG] {
+                hart.rest[csr] = 3 << 32;
+            }
+            let path = follow(&hart, 4096, &PageMap::default(), Access { kind, width: 4, address });
+            assert_eq!((path.transformed, path.lifted), expected, "{kind:?} in mode {mode}: {mstatus:#x}");
+        }
     }
 
     const CODE: u64 = 0x1000;

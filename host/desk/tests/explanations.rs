@@ -99,6 +99,90 @@ Stopped by a trap in step 1: cause 7 (store access fault), tval 0x30000, from U 
     );
 }
 
+/// The options of a monitor in M that reaches for the user's data with a tag, by MPRV and what `mstatus` has beside it.
+fn monitor(mstatus: &str, address: &str) -> String {
+    format!("--memory 16K --map user.map --sv39 --masking 7 --csr mstatus={mstatus} --x a1={address} --steps 1")
+}
+
+/// Request A2: in M with MPRV and MXR both set the tag stays, whatever MPP is.
+#[test]
+fn a_tag_that_is_not_masked_under_mprv_with_mxr() {
+    says(
+        "unmasked-load",
+        &[LD_A0_A1],
+        &monitor("0xa0000", "0x5400000000020008"),
+        "\
+Stopped by a trap in step 1: cause 13 (load page fault), tval 0x5400000000020008, from M to M.
+  at        0x80000000 in M: 0005b503  ld a0,0(a1)
+  access    load of 8 bytes at 0x5400000000020008
+  as        U under Sv39
+  masking   off for this access: mstatus has MPRV and MXR both set (masked, it would be at 0x20008)
+  refused   by rule 5 of \"From address to byte\": bits 63:39 of the address do not equal bit 38
+  handler   0x0 in M: no word can be fetched there
+",
+    );
+    says(
+        "unmasked-store",
+        &[SD_A0_A1],
+        &monitor("0xa1800", "0x5400000080000008"),
+        "\
+Stopped by a trap in step 1: cause 7 (store access fault), tval 0x5400000080000008, from M to M.
+  at        0x80000000 in M: 00a5b023  sd a0,0(a1)
+  access    store of 8 bytes at 0x5400000080000008
+  as        M where addresses are physical
+  masking   off for this access: mstatus has MPRV and MXR both set (masked, it would be at
+            0x80000008)
+  refused   by rule 9 of \"From address to byte\": physical 0x5400000080000008 lies outside memory
+            (0x80000000 to 0x80003fff)
+  handler   0x0 in M: no word can be fetched there
+",
+    );
+}
+
+/// With one of the two bits masking is as it was, and so it is below M with both.
+#[test]
+fn a_tag_that_is_masked_beside_request_a2() {
+    says(
+        "masked-mprv",
+        &[LD_A0_A1],
+        &monitor("0x20000", "0x5400000000020008"),
+        "\
+Stopped after 1 step, all that --steps allows.
+  next      0x80000004 in M: 00000000  .word 0x00000000
+",
+    );
+    says(
+        "masked-mxr",
+        &[LD_A0_A1],
+        &monitor("0x80000", "0x5400000000020008"),
+        "\
+Stopped by a trap in step 1: cause 5 (load access fault), tval 0x20008, from M to M.
+  at        0x80000000 in M: 0005b503  ld a0,0(a1)
+  access    load of 8 bytes at 0x5400000000020008, after masking 0x20008
+  as        M where addresses are physical
+  refused   by rule 9 of \"From address to byte\": physical 0x20008 lies outside memory (0x80000000 to
+            0x80003fff)
+  handler   0x0 in M: no word can be fetched there
+",
+    );
+    let options = format!("{USER} --masking 7 --csr mstatus=0xa0000 --x a1=0x5400000000030000");
+    says(
+        "masked-below",
+        &[SD_A0_A1],
+        &options,
+        "\
+Stopped by a trap in step 1: cause 15 (store page fault), tval 0x30000, from U to M.
+  at        0x10000 in U: 00a5b023  sd a0,0(a1)
+  access    store of 8 bytes at 0x5400000000030000, after masking 0x30000
+  as        U under Sv39
+  refused   by rule 5 of \"From address to byte\": the entry has W alone, and menvcfg.SSE is 0, so it
+            is no shadow page
+  entry     0x30000 -> 0x80002000 v-w-u-ad (line 2 of the map)
+  handler   0x0 in M: no word can be fetched there
+",
+    );
+}
+
 #[test]
 fn access_fault_outside_memory() {
     says(

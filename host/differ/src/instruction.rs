@@ -34,16 +34,28 @@ const MAKERS: [(u64, Make); 22] = [
     (1, any),
 ];
 
+/// Of these the makers of accesses that MPRV moves into the mode of MPP.
+const MOVED: [(u64, Make); 3] = [(13, load), (11, store), (9, shadow::swap)];
+
 /// Makes a word. Where a pad is expected it is mostly one, or nearly.
 pub fn instruction(maker: &mut Maker) -> u32 {
     let expected = maker.case.hart.rest[sporhulma::word::ELP] == 1 && maker.view.pads;
     if expected && maker.random.chance(75) {
         return pad(maker);
     }
-    let total = MAKERS.iter().map(|(weight, _)| weight).sum();
+    drawn(maker, &MAKERS)
+}
+
+/// Makes a load, a store or a swap.
+pub fn moved_by_mprv(maker: &mut Maker) -> u32 {
+    drawn(maker, &MOVED)
+}
+
+fn drawn(maker: &mut Maker, makers: &[(u64, Make)]) -> u32 {
+    let total = makers.iter().map(|(weight, _)| weight).sum();
     let mut draw = maker.random.below(total);
-    for (weight, make) in MAKERS {
-        if draw < weight {
+    for (weight, make) in makers {
+        if draw < *weight {
             return make(maker);
         }
         draw -= weight;

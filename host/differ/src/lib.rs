@@ -8,6 +8,7 @@ pub mod case;
 pub mod csr;
 pub mod decoder;
 pub mod instruction;
+pub mod lifted;
 pub mod maker;
 pub mod mix;
 pub mod options;

@@ -1,7 +1,9 @@
 //! What the cases were, counted, so that a reader sees that the bias works and a test can demand that nothing is missing.
 
 use crate::case::{Call, Case};
+use crate::lifted::Lifted;
 use crate::pair::Side;
+use crate::state::View;
 use sporhulma::word::{MODE, MTVAL, STVAL};
 use std::fmt::Write;
 
@@ -79,6 +81,9 @@ pub struct Mix {
     run_lengths: [u64; 5],
     run_steps: u64,
     other_causes: u64,
+    /// Request A2: of steps, and how many calls of runs start where it lifts masking.
+    lifted: Lifted,
+    run_lifted: u64,
 }
 
 impl Mix {
@@ -98,11 +103,12 @@ impl Mix {
             let family = second::family(word) as usize % FAMILIES.len();
             self.families[family] += 1;
             self.families_untrapped[family] += u64::from(!answer.trapped);
+            self.lifted.note(&case.hart, word, answer.trapped);
         }
     }
 
     /// Counts a call of a run and what it left.
-    pub fn note_run(&mut self, first: bool, left: &Side) {
+    pub fn note_run(&mut self, first: bool, case: &Case, left: &Side) {
         self.runs += u64::from(first);
         self.run_calls += 1;
         let Some(answer) = left.answer else { return };
@@ -110,6 +116,7 @@ impl Mix {
             self.note_refusal(answer.refusal);
             return;
         }
+        self.run_lifted += u64::from(View::of(&case.hart.rest).lifted);
         self.run_steps += answer.count;
         self.run_lengths[answer
             .count
@@ -164,6 +171,7 @@ impl Mix {
                 complaints.push(format!("refusal {number} was never seen"));
             }
         }
+        complaints.extend(self.lifted.complaint(self.steps));
         if self.other_causes > 0 {
             complaints.push(format!(
                 "{} traps had a cause that no hart has",
@@ -173,7 +181,7 @@ impl Mix {
         complaints
     }
 
-    /// About a dozen lines.
+    /// Under twenty lines.
     pub fn text(&self) -> String {
         let mut text = self.steps_text();
         let _ = writeln!(
@@ -186,6 +194,14 @@ impl Mix {
             text,
             "           calls of 0 steps {none}, under 10 {ones}, under 100 {tens}, under 1000 {hundreds}, more {more}"
         );
+        let (title, counts) = self.lifted.text(self.steps);
+        let _ = writeln!(text, "A2         {title};");
+        let _ = writeln!(
+            text,
+            "           {} calls of runs start so",
+            self.run_lifted
+        );
+        list(&mut text, "", counts, 8);
         let refusals = (1..5).map(|number| format!("{number}: {}", self.refusals[number]));
         list(&mut text, "refusals", refusals.collect(), 4);
         let _ = writeln!(

@@ -6,7 +6,7 @@ use crate::maker::Maker;
 use crate::program::{handler, program};
 use crate::random::Random;
 use crate::refuse;
-use crate::state::{keepers, registers, settings, View, LPE, SSE, SV39};
+use crate::state::{keepers, lifting, registers, settings, View, LIFTED, LPE, SSE, SV39};
 use crate::world::{lengthen, write_map, Role, Wish, World, ENTRIES};
 use formats::{MRET, SRET};
 use sporhulma::word::*;
@@ -64,6 +64,9 @@ fn accepted(random: &mut Random, case: &mut Case) -> u64 {
     }
     settings(random, case);
     tame(random, case);
+    if random.chance(LIFTED) {
+        lifting(random, case);
+    }
     keepers(random, &world, 1, case);
     registers(random, case);
     let view = View::of(&case.hart.rest);
@@ -119,7 +122,9 @@ fn point(maker: &mut Maker) {
     let table = maker.world.at(Role::Data, sv39, PAGE / 2);
     let stack = maker.world.at(Role::Data, sv39, PAGE - 64);
     let pointer = maker.world.at(Role::Shadow, sv39, PAGE / 2);
-    let masked = maker.view.data_masked;
+    // Where no bit is masked a tag ends most programs at their first access.
+    let tagged = !maker.view.lifted || maker.random.chance(25);
+    let masked = if tagged { maker.view.data_masked } else { 0 };
     let (table, stack) = (maker.dirty(table, masked), maker.dirty(stack, masked));
     maker.case.set(8, table);
     maker.case.set(2, stack);

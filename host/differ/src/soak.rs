@@ -105,7 +105,7 @@ impl<L: Simulator, R: Simulator> Soak<L, R> {
         runs::make(self.seed, number, &mut self.case);
         for call in 0..runs::CHAIN {
             let same = self.compare(Name::Run(number));
-            self.mix.note_run(call == 0, &self.pair.left);
+            self.mix.note_run(call == 0, &self.case, &self.pair.left);
             if !same || !self.pair.left.answer.is_some_and(|answer| answer.trapped) {
                 return;
             }
@@ -145,7 +145,7 @@ mod tests {
 
     #[test]
     fn an_empty_mix_has_nothing() {
-        assert_eq!(Mix::default().complaints(true).len(), 24 + 16 + 4);
-        assert_eq!(Mix::default().complaints(false).len(), 24 + 16 + 3);
+        assert_eq!(Mix::default().complaints(true).len(), 24 + 16 + 4 + 1);
+        assert_eq!(Mix::default().complaints(false).len(), 24 + 16 + 3 + 1);
     }
 }

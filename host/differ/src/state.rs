@@ -21,17 +21,24 @@ pub const MLPE: u64 = 1 << 10;
 pub const PMM: u64 = 3 << 32;
 pub const SV39: u64 = 8 << 60;
 
+/// Of a hundred cases so many are made for request A2.
+pub const LIFTED: u64 = 11;
+
 /// What a case's state means for the next instruction: only to aim at what matters, no answer depends on it.
 #[derive(Clone, Copy)]
 pub struct View {
     pub mode: u64,
     /// The mode of loads, stores and swaps.
     pub data_mode: u64,
+    /// Whether satp says Sv39, and whether it is in force.
+    pub sv39: bool,
     pub fetch_sv39: bool,
     pub data_sv39: bool,
-    /// How many upper bits are masked in data addresses, and would be in the fetch address if it were masked.
+    /// How many upper bits the mode's PMM masks in data addresses, and would in the fetch address if it were masked.
     pub data_masked: u32,
     pub fetch_masked: u32,
+    /// Whether loads, stores and swaps are not masked all the same (request A2): in M with MPRV and MXR both set.
+    pub lifted: bool,
     pub pads: bool,
 }
 
@@ -48,10 +55,12 @@ impl View {
         View {
             mode,
             data_mode,
+            sv39: rest[SATP] == SV39,
             fetch_sv39: sv39(mode),
             data_sv39: sv39(data_mode),
             data_masked: masked(rest, data_mode),
             fetch_masked: masked(rest, mode),
+            lifted: mprv && rest[MSTATUS] & MXR != 0,
             pads: match mode {
                 0 => rest[SENVCFG] & LPE != 0,
                 1 => rest[MENVCFG] & LPE != 0,
@@ -106,6 +115,13 @@ pub fn settings(random: &mut Random, case: &mut Case) {
         _ => random.word() & DELEGATED,
     };
     rest[ELP] = u64::from(random.chance(15));
+}
+
+/// Turns the settings into those where request A2 lifts masking, with any MPP: by chance few harts have all of it.
+pub fn lifting(random: &mut Random, case: &mut Case) {
+    let rest = &mut case.hart.rest;
+    rest[MODE] = 3;
+    rest[MSTATUS] = rest[MSTATUS] & !MPP | MPRV | MXR | random.pick(&[0, 1, 3]) << 11;
 }
 
 /// The words that only keep something: scratch, cause, tval, the handlers' addresses and where they return to;

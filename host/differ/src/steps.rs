@@ -1,11 +1,11 @@
 //! Single steps: case `number` of a seed, made without the cases before it.
 
 use crate::case::{Call, Case, PAGE};
-use crate::instruction::instruction;
+use crate::instruction::{instruction, moved_by_mprv};
 use crate::maker::Maker;
 use crate::random::Random;
 use crate::refuse;
-use crate::state::{keepers, registers, settings, View, SUM};
+use crate::state::{keepers, lifting, registers, settings, View, LIFTED, SUM};
 use crate::world::{resize_map, write_map, Role, Wish, World};
 use sporhulma::word::{MSTATUS, PC, SSP};
 
@@ -45,6 +45,10 @@ fn accepted(random: &mut Random, case: &mut Case) -> Option<u32> {
     case.fill((pages * PAGE) as usize, random.word(), random.word());
     let world = World::random(random, pages);
     settings(random, case);
+    let lifted = random.chance(LIFTED);
+    if lifted {
+        lifting(random, case);
+    }
     keepers(random, &world, 10, case);
     registers(random, case);
     let view = View::of(&case.hart.rest);
@@ -58,7 +62,11 @@ fn accepted(random: &mut Random, case: &mut Case) -> Option<u32> {
         view,
     };
     maker.case.hart.rest[SSP] = maker.address(Role::Shadow, 8) & !7;
-    let word = instruction(&mut maker);
+    let word = if lifted {
+        moved_by_mprv(&mut maker)
+    } else {
+        instruction(&mut maker)
+    };
     fetch(&mut maker, word)
 }
 

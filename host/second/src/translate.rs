@@ -94,7 +94,7 @@ pub fn translate(
     let paged = mode != MACHINE && h.satp == SATP_SV39;
     let address = match access {
         Access::Fetch => address,
-        _ => ignore_upper(address, masked_bits(h, mode), paged),
+        _ => ignore_upper(address, masked_bits(h, access, mode), paged),
     };
     let trap = |cause| Trap {
         cause,
@@ -114,17 +114,27 @@ pub fn translate(
     place(physical, size).ok_or(trap(access.access_fault()))
 }
 
+/// Step 1: whether MPRV decides the mode of this access. It counts in M alone.
+fn under_mprv(h: &Hart, access: Access) -> bool {
+    h.mode == MACHINE && h.mstatus & MPRV != 0 && access.heeds_mprv()
+}
+
 /// Step 1.
 fn effective_mode(h: &Hart, access: Access) -> u64 {
-    if h.mode == MACHINE && h.mstatus & MPRV != 0 && access.heeds_mprv() {
+    if under_mprv(h, access) {
         h.mpp()
     } else {
         h.mode
     }
 }
 
-/// Step 2: how many upper bits are masked in this mode.
-fn masked_bits(h: &Hart, mode: u64) -> u32 {
+/// Step 2: how many upper bits are masked in this mode. Request A2 of document 02 (section 2.6 of source document 000):
+/// none where MPRV decides while MXR is set too, so that M can read with the rights of a fetch, which is not masked
+/// either; whatever mode MPP names, and also where it names M.
+fn masked_bits(h: &Hart, access: Access, mode: u64) -> u32 {
+    if under_mprv(h, access) && h.mstatus & MXR != 0 {
+        return 0;
+    }
     let setting = match mode {
         USER => h.senvcfg,
         SUPERVISOR => h.menvcfg,

@@ -102,14 +102,128 @@ fn step_2_each_mode_has_its_mask() {
     }
 }
 
-/// MXR with MPRV: the base does not have the exception of source document 000, section 2.6.
-#[test]
-fn step_2_masks_under_mprv_with_mxr_too() {
+const TAGGED: u64 = 0xABCD_0000_0000_5000;
+
+/// M with MPRV and this MPP, 16 bits masked in every mode, and page 5 a page of U, which S reaches by SUM.
+fn monitor(mpp: u64, more: u64) -> World {
     let mut w = paged(MACHINE, ALL);
     w.place_double(0x1000, 42);
-    w.h.mstatus = STATUS | MPRV | MXR;
-    w.h.senvcfg = PMM_7;
-    load_gives(&w, 0xFE00_0000_0000_5000, 42);
+    w.h.mstatus = STATUS | MPRV | SUM | mpp | more;
+    (w.h.senvcfg, w.h.menvcfg, w.h.mseccfg) = (PMM_16, PMM_16, PMM_16);
+    w
+}
+
+/// Request A2: with MXR set too no bit is masked, so a tag is not canonical, and tval is the whole address.
+#[test]
+fn step_2_masks_nothing_under_mprv_with_mxr() {
+    for mpp in [0, MPP_S] {
+        load_gives(&monitor(mpp, 0), TAGGED, 42);
+        let w = monitor(mpp, MXR);
+        load_gives(&w, 0x5000, 42);
+        load_faults(&w, TAGGED, 13, TAGGED);
+        store_faults(&w, TAGGED, 15, TAGGED);
+        load_faults(&w, TAGGED + 1, 4, TAGGED + 1);
+        store_faults(&w, TAGGED + 1, 6, TAGGED + 1);
+        let mut w = w;
+        w.h.mstatus &= !MPRV;
+        load_faults(&w, TAGGED, 5, 0x5000);
+    }
+}
+
+/// A canonical address of the upper half stays what it is, and so does one that masking would have made canonical.
+#[test]
+fn step_2_under_mprv_with_mxr_the_upper_bits_have_to_be_canonical() {
+    for (pmm, address) in [
+        (PMM_7, 0x01FF_FFFF_FFFF_FFF8),
+        (PMM_16, 0x0000_FFFF_FFFF_FFF8),
+    ] {
+        let mut w = monitor(0, 0);
+        w.map = vec![0x7FF_FFFF, leaf(1, ALL)];
+        w.place_double(0x1FF8, 43);
+        w.h.senvcfg = pmm;
+        load_gives(&w, address, 43);
+        w.h.mstatus |= MXR;
+        load_gives(&w, 0xFFFF_FFFF_FFFF_FFF8, 43);
+        load_faults(&w, address, 13, address);
+    }
+}
+
+/// In M and in Bare no upper bit becomes 0 then; mseccfg.PMM masks where MPP is M and MXR is clear.
+#[test]
+fn step_2_masks_nothing_under_mprv_with_mxr_in_m_and_bare() {
+    let tagged = 0xABCD_0000_8000_1000;
+    for (mpp, satp) in [(0, 0), (MPP_S, 0), (MPP_M, 0), (MPP_M, SV39)] {
+        let mut w = monitor(mpp, 0);
+        w.h.satp = satp;
+        load_gives(&w, tagged, 42);
+        w.h.mstatus |= MXR;
+        load_gives(&w, START + 0x1000, 42);
+        load_faults(&w, tagged, 5, tagged);
+        store_faults(&w, tagged, 7, tagged);
+        w.h.mstatus &= !MPRV;
+        load_gives(&w, tagged, 42);
+    }
+}
+
+#[test]
+fn step_2_masks_no_swap_under_mprv_with_mxr() {
+    for (mpp, satp, cause) in [
+        (0, SV39, 15),
+        (MPP_S, SV39, 15),
+        (MPP_M, SV39, 7),
+        (0, 0, 7),
+    ] {
+        let mut w = monitor(mpp, MXR);
+        w.h.satp = satp;
+        w.h.menvcfg |= SSE;
+        w.map = vec![5, leaf(1, V | W | U | A | D)];
+        w.h.x[1] = TAGGED;
+        w.clone().traps(swap(3, 2, 1, 3), cause, TAGGED);
+        w.h.x[1] = TAGGED + 2;
+        w.clone().traps(swap(2, 2, 1, 3), 7, TAGGED + 2);
+    }
+    let mut w = monitor(0, 0);
+    w.h.menvcfg |= SSE;
+    w.map = vec![5, leaf(1, V | W | U | A | D)];
+    w.h.x[1] = TAGGED;
+    w.clone().passes(swap(3, 2, 1, 3));
+    w.h.mstatus |= MXR;
+    w.h.x[1] = 0x5000;
+    w.passes(swap(3, 2, 1, 3));
+}
+
+/// A hart below M can come with both bits set: nothing is lifted there, for no kind of access.
+#[test]
+fn step_2_below_m_masks_with_both_bits_set() {
+    for mode in [USER, SUPERVISOR] {
+        let mut w = shadowed(mode, V | W | U | A | D);
+        w.place_double(0x1800, 42);
+        w.h.mstatus = STATUS | MPRV | MXR | SUM | MPP_M;
+        w.h.senvcfg |= PMM_16;
+        w.h.menvcfg |= PMM_16;
+        load_gives(&w, TAGGED + 0x800, 42);
+        store_faults(&w, TAGGED, 7, 0x5000);
+        w.h.x[1] = TAGGED;
+        w.clone().passes(swap(3, 2, 1, 3));
+        w.h.ssp = TAGGED + 0x800;
+        w.clone().passes(PUSH_X1);
+        w.h.x[1] = 42;
+        w.passes(POP_X1);
+    }
+}
+
+/// Push and pop-check have the current mode, where they do nothing in M; and a fetch is as it was.
+#[test]
+fn step_2_under_mprv_with_mxr_leaves_the_rest_as_it_was() {
+    let mut w = monitor(0, MXR);
+    w.h.menvcfg |= SSE;
+    w.h.senvcfg |= SSE;
+    w.h.ssp = TAGGED;
+    w.place(0, &[NOP]);
+    w.clone().passes(PUSH_X1);
+    w.clone().passes(POP_X1);
+    assert_eq!(w.clone().step(), quiet(1));
+    fetch_faults(&w, 0xABCD_0000_8000_0000, 1);
 }
 
 #[test]

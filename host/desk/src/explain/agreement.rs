@@ -115,11 +115,13 @@ fn instruction(random: &mut Random) -> u32 {
     }
 }
 
-/// What came up: causes, of software checks with their tval, and the rules that refused.
+/// What came up: causes, of software checks with their tval, the rules that refused, and of those accesses whose masking
+/// request A2 lifts the first words (load, store or shadow).
 #[derive(Default)]
 struct Seen {
     traps: BTreeSet<(u64, u64)>,
     rules: BTreeSet<char>,
+    lifted: BTreeSet<String>,
 }
 
 /// One step from `before`, whose explanation must agree with the hart.
@@ -148,6 +150,11 @@ fn compare(before: &State, map: &PageMap, case: usize, seen: &mut Seen) {
     let refused = trap.rows.iter().filter(|row| row.0 == "refused");
     seen.rules
         .extend(refused.filter_map(|row| row.1.strip_prefix("by rule ")?.chars().next()));
+    if trap.rows.iter().any(|row| row.0 == "masking") {
+        let access = trap.rows.iter().filter(|row| row.0 == "access");
+        seen.lifted
+            .extend(access.filter_map(|row| row.1.split(' ').next().map(str::to_string)));
+    }
 }
 
 #[test]
@@ -171,6 +178,12 @@ fn every_trap_is_explained_as_the_hart_gives_it() {
     let traps: BTreeSet<_> = traps.into_iter().chain([(18, 2), (18, 3)]).collect();
     assert_eq!(seen.traps, traps, "some kind of trap never came up");
     assert_eq!(seen.rules, ('3'..='9').collect(), "some rule never refused");
+    let lifted = ["load", "shadow", "store"].map(str::to_string);
+    assert_eq!(
+        seen.lifted,
+        lifted.into(),
+        "masking was not lifted for some kind"
+    );
 }
 
 /// What the hart did not give is not explained.

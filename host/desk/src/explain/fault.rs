@@ -13,7 +13,8 @@ pub fn verdict(path: &Path) -> Option<Verdict> {
         "by rule {} of \"From address to byte\": {}",
         refused.rule, refused.why
     );
-    rows.insert(2, ("refused", why));
+    rows.push(("refused", why));
+    rows.extend(path.entry.map(|entry| entry.row()));
     let facts = vec![
         ("rule", Json::Number(refused.rule.into())),
         ("reason", Json::text(refused.why.as_str())),
@@ -36,7 +37,7 @@ pub fn verdict(path: &Path) -> Option<Verdict> {
     })
 }
 
-/// The access as computed, as whom, and the entry that it met.
+/// The access as computed, as whom, and that it was not masked where that made a difference.
 fn rows(path: &Path) -> Rows {
     let access = &path.access;
     let mut text = format!(
@@ -57,6 +58,14 @@ fn rows(path: &Path) -> Rows {
         ("access", text),
         ("as", format!("{} {regime}", mode_name(path.mode))),
     ];
-    rows.extend(path.entry.map(|entry| entry.row()));
+    rows.extend(path.lifted.map(unmasked));
     rows
+}
+
+/// Why the address kept its upper bits (request A2): an engineer who set PMM expects them to be gone.
+fn unmasked(masked: u64) -> (&'static str, String) {
+    let why = format!(
+        "off for this access: mstatus has MPRV and MXR both set (masked, it would be at {masked:#x})"
+    );
+    ("masking", why)
 }
