@@ -147,6 +147,8 @@ impl Mix {
             run_lengths,
             run_steps,
             other_causes,
+            lifted,
+            run_lifted,
         } = other;
         for (mine, theirs) in [
             (&mut self.steps, steps),
@@ -157,6 +159,7 @@ impl Mix {
             (&mut self.run_traps, run_traps),
             (&mut self.run_steps, run_steps),
             (&mut self.other_causes, other_causes),
+            (&mut self.run_lifted, run_lifted),
         ] {
             *mine += theirs;
         }
@@ -167,6 +170,7 @@ impl Mix {
         add_all(&mut self.causes, causes);
         add_all(&mut self.refusals, refusals);
         add_all(&mut self.run_lengths, run_lengths);
+        self.lifted.add(lifted);
     }
 
     fn note_refusal(&mut self, number: u64) {
