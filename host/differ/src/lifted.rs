@@ -89,7 +89,7 @@ fn sorts() -> Vec<Sort> {
 }
 
 /// How many there were of each sort.
-#[derive(Default, PartialEq, Eq, Debug)]
+#[derive(Default)]
 pub struct Lifted {
     counts: BTreeMap<Sort, u64>,
 }
@@ -113,12 +113,6 @@ impl Lifted {
             fate(&view, access.address, trapped),
         ];
         *self.counts.entry(sort).or_default() += 1;
-    }
-
-    pub fn add(&mut self, other: &Lifted) {
-        for (sort, count) in &other.counts {
-            *self.counts.entry(*sort).or_default() += count;
-        }
     }
 
     /// How many had this name in their sort; all of them for "".
