@@ -9,11 +9,9 @@ use differ::simulator::{Proved, Second};
 use differ::soak::{Failure, Name, Soak};
 use differ::text;
 use std::io::{IsTerminal, Write};
-use std::ops::Range;
 use std::path::{Path, PathBuf};
 use std::process::ExitCode;
 use std::sync::atomic::{AtomicU64, Ordering::Relaxed};
-use std::thread;
 use std::time::{Duration, Instant};
 
 /// Prints a line. A reader that has gone away (a closed pipe) must not change the exit status.
@@ -27,7 +25,7 @@ const TEST_SEED: u64 = 1;
 const TEST_STEPS: u64 = 1_000_000;
 const TEST_RUNS: u64 = 20_000;
 
-/// Cases of a thread between two looks at the clock.
+/// Cases between two looks at the clock.
 const STEPS_AT_ONCE: u64 = 5_000;
 const RUNS_AT_ONCE: u64 = 100;
 
@@ -107,69 +105,38 @@ fn test() -> ExitCode {
     status(complaints.is_empty() && soak.failures.is_empty())
 }
 
-/// The numbers that are still to do, up to a limit; 0 means that there is none.
-struct Numbers {
-    next: u64,
-    limit: u64,
-}
-
-impl Numbers {
-    fn left(&self) -> bool {
-        self.limit == 0 || self.next < self.limit
-    }
-
-    fn take(&mut self, count: u64) -> Range<u64> {
-        let start = self.next;
-        self.next = match self.limit {
-            0 => start + count,
-            limit => limit.min(start + count),
-        };
-        start..self.next
-    }
-}
-
-/// Steps and runs by turns, on every processor; 0 means until stopped. Prints the mix and the verdict.
+/// Steps and runs by turns; 0 means until stopped. Prints the mix and the verdict.
 fn soak(seed: u64, steps: u64, runs: u64) -> Soak<Proved, Second> {
-    let threads = thread::available_parallelism().map_or(1, |count| count.get());
-    let mut soaks: Vec<_> = (0..threads)
-        .map(|_| Soak::new(Proved, Second, seed))
-        .collect();
-    let mut whole = Soak::new(Proved, Second, seed);
+    let mut soak = Soak::new(Proved, Second, seed);
     let mut progress = Progress::new();
-    let [mut steps, mut runs] = [steps, runs].map(|limit| Numbers { next: 0, limit });
-    while !whole.done() && (steps.left() || runs.left()) {
-        thread::scope(|scope| {
-            for soak in &mut soaks {
-                let (steps, runs) = (steps.take(STEPS_AT_ONCE), runs.take(RUNS_AT_ONCE));
-                scope.spawn(|| soak.stretch(steps, runs));
-            }
-        });
-        for soak in &mut soaks {
-            for failure in soak.failures.drain(..) {
-                progress.clear();
-                print_failure(&failure);
-                whole.failures.push(failure);
-            }
+    let (mut step, mut run, mut printed) = (0, 0, 0);
+    let more = |number, limit| limit == 0 || number < limit;
+    while !soak.done() && (more(step, steps) || more(run, runs)) {
+        let end = step + STEPS_AT_ONCE;
+        while !soak.done() && step < end && more(step, steps) {
+            soak.step(step);
+            step += 1;
         }
-        let differences = whole.failures.len();
-        progress.show(|| {
-            format!(
-                "{} steps, {} runs, {differences} differences",
-                steps.next, runs.next
-            )
-        });
+        let end = run + RUNS_AT_ONCE;
+        while !soak.done() && run < end && more(run, runs) {
+            soak.run(run);
+            run += 1;
+        }
+        for failure in &soak.failures[printed..] {
+            progress.clear();
+            print_failure(failure);
+        }
+        printed = soak.failures.len();
+        progress.show(|| format!("{step} steps, {run} runs, {printed} differences"));
     }
     progress.clear();
-    soaks.iter().for_each(|soak| whole.mix.add(&soak.mix));
-    say!("{}", whole.mix.text().trim_end());
+    say!("{}", soak.mix.text().trim_end());
     say!(
-        "differ: {} differences in {} steps and {} runs of seed {seed}, {:.1} s",
-        whole.failures.len(),
-        steps.next,
-        runs.next,
+        "differ: {} differences in {step} steps and {run} runs of seed {seed}, {:.1} s",
+        soak.failures.len(),
         progress.start.elapsed().as_secs_f64()
     );
-    whole
+    soak
 }
 
 /// Where failing cases are written: target/differ of the repository that this was built in.
@@ -231,13 +198,13 @@ fn again_file(file: &str) -> ExitCode {
 fn decoder() -> ExitCode {
     let done = AtomicU64::new(0);
     let mut progress = Progress::new();
-    let verdicts = thread::scope(|scope| {
+    let verdicts = std::thread::scope(|scope| {
         let work = scope
             .spawn(|| decoder::compare(sporhulma::family, second::family, decoder::WORDS, &done));
         while !work.is_finished() {
             let percent = done.load(Relaxed) * 100 / decoder::WORDS;
             progress.show(|| format!("{percent} % of 2^32 words"));
-            thread::sleep(Duration::from_millis(100));
+            std::thread::sleep(Duration::from_millis(100));
         }
         work.join().expect("the comparison panicked")
     });

@@ -61,7 +61,7 @@ const fn causes() -> [Cause; CAUSES] {
     all
 }
 
-#[derive(Default, PartialEq, Eq, Debug)]
+#[derive(Default)]
 pub struct Mix {
     steps: u64,
     given_words: u64,
@@ -119,47 +119,6 @@ impl Mix {
             self.run_traps += 1;
             self.note_trap(answer.cause, left);
         }
-    }
-
-    /// Counts what another one counted.
-    pub fn add(&mut self, other: &Mix) {
-        // Taken apart, so that a new field is not forgotten here.
-        let Mix {
-            steps,
-            given_words,
-            modes,
-            untrapped,
-            to_mode,
-            families,
-            families_untrapped,
-            causes,
-            refusals,
-            runs,
-            run_calls,
-            run_traps,
-            run_lengths,
-            run_steps,
-            other_causes,
-        } = other;
-        for (mine, theirs) in [
-            (&mut self.steps, steps),
-            (&mut self.given_words, given_words),
-            (&mut self.untrapped, untrapped),
-            (&mut self.runs, runs),
-            (&mut self.run_calls, run_calls),
-            (&mut self.run_traps, run_traps),
-            (&mut self.run_steps, run_steps),
-            (&mut self.other_causes, other_causes),
-        ] {
-            *mine += theirs;
-        }
-        add_all(&mut self.modes, modes);
-        add_all(&mut self.to_mode, to_mode);
-        add_all(&mut self.families, families);
-        add_all(&mut self.families_untrapped, families_untrapped);
-        add_all(&mut self.causes, causes);
-        add_all(&mut self.refusals, refusals);
-        add_all(&mut self.run_lengths, run_lengths);
     }
 
     fn note_refusal(&mut self, number: u64) {
@@ -262,12 +221,6 @@ impl Mix {
             share(accepted - self.untrapped),
             share(self.steps - accepted)
         )
-    }
-}
-
-fn add_all(mine: &mut [u64], theirs: &[u64]) {
-    for (mine, theirs) in mine.iter_mut().zip(theirs) {
-        *mine += theirs;
     }
 }
 

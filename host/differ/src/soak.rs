@@ -5,7 +5,6 @@ use crate::mix::Mix;
 use crate::pair::Pair;
 use crate::simulator::Simulator;
 use crate::{runs, steps, text};
-use std::ops::Range;
 use std::path::{Path, PathBuf};
 
 /// After so many failures a soak ends.
@@ -116,22 +115,6 @@ impl<L: Simulator, R: Simulator> Soak<L, R> {
         }
     }
 
-    /// These steps and these runs, up to the failure that is enough.
-    pub fn stretch(&mut self, steps: Range<u64>, runs: Range<u64>) {
-        for number in steps {
-            if self.done() {
-                return;
-            }
-            self.step(number);
-        }
-        for number in runs {
-            if self.done() {
-                return;
-            }
-            self.run(number);
-        }
-    }
-
     fn compare(&mut self, name: Name) -> bool {
         let same = self.pair.agree(&self.left, &self.right, &self.case);
         if !same {
@@ -158,19 +141,6 @@ mod tests {
         (0..2_000).for_each(|number| soak.run(number));
         assert!(soak.failures.is_empty());
         assert_eq!(soak.mix.complaints(true), Vec::<String>::new());
-    }
-
-    #[test]
-    fn two_mixes_added_are_the_mix_of_both() {
-        let mut whole = Soak::new(Second, Second, 1);
-        whole.stretch(0..2_000, 0..20);
-        let mut sum = Mix::default();
-        for (steps, runs) in [(0..500, 0..15), (500..2_000, 15..20)] {
-            let mut part = Soak::new(Second, Second, 1);
-            part.stretch(steps, runs);
-            sum.add(&part.mix);
-        }
-        assert_eq!(sum, whole.mix);
     }
 
     #[test]
