@@ -1,12 +1,14 @@
-//! `tools/bench count`: machine instructions for one simulated instruction, as valgrind counts them. Times on a shared machine move by a
-//! factor of two; this does not move at all.
+//! `tools/bench count`: machine instructions for one simulated instruction, as valgrind counts them, or the emulator where programs run
+//! under one. Times on a shared machine move by a factor of two; this does not move at all.
 
 use crate::{programs, proved, second};
+use std::env;
+use std::ffi::OsString;
 use std::process::{Command, ExitCode};
 
 const SIDES: [&str; 2] = ["sporhulma", "second"];
 
-/// Without words: the table. With a side, a row and a number of millions: that many simulated instructions, for valgrind to count.
+/// Without words: the table. With a side, a row and a number of millions: that many simulated instructions, to be counted.
 pub fn count(words: &[String]) -> ExitCode {
     match words {
         [] => table(),
@@ -34,11 +36,30 @@ fn one(side: &str, row: &str, millions: &str) -> ExitCode {
     ExitCode::SUCCESS
 }
 
-/// What valgrind collected while this program ran so many millions.
+/// Where programs run under an emulator: which one (tools/host says so), and its plugin that counts (tools/bench).
+pub fn emulated() -> Option<(OsString, OsString)> {
+    Some((
+        env::var_os("SPORHULMA_RUNNER")?,
+        env::var_os("SPORHULMA_COUNTER")?,
+    ))
+}
+
+/// What counts a program's instructions, and says "Collected : N" of them.
+fn counter() -> Command {
+    if let Some((emulator, plugin)) = emulated() {
+        let mut command = Command::new(emulator);
+        command.arg("-plugin").arg(plugin).args(["-d", "plugin"]);
+        return command;
+    }
+    let mut command = Command::new("valgrind");
+    command.args(["--tool=callgrind", "--callgrind-out-file=/dev/null"]);
+    command
+}
+
+/// What was collected while this program ran so many millions.
 fn collected(side: &str, row: usize, millions: u64) -> Option<f64> {
-    let ran = Command::new("valgrind")
-        .args(["--tool=callgrind", "--callgrind-out-file=/dev/null"])
-        .arg(std::env::current_exe().ok()?)
+    let ran = counter()
+        .arg(env::current_exe().ok()?)
         .args(["count", side, &row.to_string(), &millions.to_string()])
         .output()
         .ok()?;
@@ -56,7 +77,7 @@ fn table() -> ExitCode {
             // The second million alone: what starting costs is in the first.
             let (Some(first), Some(both)) = (collected(side, row, 1), collected(side, row, 2))
             else {
-                eprintln!("bench: count: valgrind gave no number; install it (Debian: apt-get install valgrind)");
+                eprintln!("bench: count: no number of instructions came from valgrind, or from the emulator where tools/bench uses it");
                 return ExitCode::FAILURE;
             };
             line += &format!(" {:>9.1}", (both - first) / 1e6);

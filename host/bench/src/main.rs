@@ -65,6 +65,10 @@ fn table(words: &[String]) -> ExitCode {
         eprintln!("bench: {:?} is not what it takes; {USAGE}", words.join(" "));
         return ExitCode::from(2);
     };
+    if count::emulated().is_some() {
+        eprintln!("bench: programs run under an emulator here (tools/host), so a time would be the emulator's: counted instructions instead, as tools/bench count");
+        return count::count(&[]);
+    }
     println!("Millions of instructions a second, best of {turns} turns of {millions} million");
     println!(
         "{:<40} {:>9} {:>9} {:>7}",
