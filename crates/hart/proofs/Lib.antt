@@ -9,3 +9,4 @@ pub mod Turns
 pub mod Rows
 pub mod Steps
 pub mod Compose
+pub mod Longer

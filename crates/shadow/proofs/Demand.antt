@@ -32,11 +32,13 @@ use Rattle.bank.specs.Setting.{settingOf}
 use Rattle.hart.specs.Step.{trapsOf, stepFrom}
 use Rattle.hart.specs.declared.Hart.{Hart}
 use Rattle.call.proofs.Accepted.{no-refusal}
-use Rattle.shadow.specs.Promise.{inForce, StandsOnce, Starts, Event, Stretch, start, step, Shadow, unmatched, PopCheck, Permitted, matchOf, Promise, Claim}
+use Rattle.origin.proofs.Users.{in-user, sv39-on, Same}
+use Rattle.origin.specs.Force.{inForce}
+use Rattle.shadow.specs.Promise.{StandsOnce, Starts, Event, Stretch, start, step, Shadow, unmatched, PopCheck, Permitted, matchOf, Promise, Claim}
 use Rattle.shadow.proofs.Geometry.{Geometry}
 use Rattle.shadow.proofs.Invariant.{inv-start}
 use Rattle.shadow.proofs.Slots.{geometry}
-use Rattle.shadow.proofs.Steps.{slot, Same, as-at-start, Holds, in-user, step-left}
+use Rattle.shadow.proofs.Steps.{slot, as-at-start, Holds, step-left}
 use Rattle.shadow.proofs.Ties.{check-does}
 
 -- what is enough for the proof
@@ -78,13 +80,13 @@ module _ (map : List ℕ) (h₀ : Hart) (m₀ : List ℕ) (N : Enough map h₀ m
 
   -- every stretch keeps the invariant, and until it traps the mode and the CSRs
   held : {es : List Event} {h : Hart} {m : List ℕ} {trapped : Bool} → Stretch map h₀ m₀ es h m trapped
-      → (trapped ≡ false → Same map h₀ m₀ h) × Kept es (h .ssp) m
+      → (trapped ≡ false → Same h₀ h) × Kept es (h .ssp) m
   held start = ((λ f. (refl, refl)), inv-start _ _ _ G (h₀ .ssp) m₀ (N .eight) refl)
   held (step {es} {h} {m} r source ns np) =
       let (same, I) = held r in
       step-left map h₀ m₀ G (N .user) (N .sv39) (N .once) source es h m (same refl) I ns np
 
-  module _ (es : List Event) (h : Hart) (m : List ℕ) (same : Same map h₀ m₀ h) (I : Kept es (h .ssp) m) where
+  module _ (es : List Event) (h : Hart) (m : List ℕ) (same : Same h₀ h) (I : Kept es (h .ssp) m) where
     -- what stands at the pointer is the match
     top-is : (q : Physical) → Permitted h m map q → readOf m q Double ≡ matchOf es m₀ q
     top-is q e =
@@ -108,11 +110,10 @@ module _ (map : List ℕ) (h₀ : Hart) (m₀ : List ℕ) (N : Enough map h₀ m
 
 -- what the user's words give is enough
 enough : (map : List ℕ) (h₀ : Hart) (m₀ : List ℕ) → Starts map h₀ m₀ → Enough map h₀ m₀
-unfolding settingOf controlOf
 enough map h₀ m₀ S = record {
   eight = ssp-eight h₀ (lawful h₀ (not-false (legal h₀) (no-refusal h₀ m₀ map (S .accepted) .0)));
   user = S .user;
-  sv39 = eq-eqb (h₀ .csrs .satp / 2 ^ 60) 8 (S .sv39);
+  sv39 = sv39-on h₀ (S .sv39);
   senvcfg = S .senvcfg;
   once = S .once;
 }

@@ -4,7 +4,6 @@ pub mod Cycles
 pub mod Slots
 pub mod Bytes
 pub mod Invariant
-pub mod Origins
 pub mod Ties
 pub mod Steps
 pub mod Demand

@@ -12,7 +12,6 @@ use Rattle.word.proofs.Bools.{both}
 use Rattle.word.proofs.Either.{either}
 use Rattle.isa.specs.Size.{sizeOf}
 use Rattle.isa.specs.declared.Width.{Width}
-use Rattle.page.proofs.Entries.{lookup-stands}
 use Rattle.judge.proofs.Grants.{Held, held, granted}
 use Rattle.leaf.specs.Leaf.{leafOf, shadowPage}
 use Rattle.judge.specs.Judge.{judgeOf, accessedDirty}
@@ -25,7 +24,7 @@ use Rattle.page.specs.declared.Regime.{Regime}
 use Rattle.leaf.specs.declared.Leaf as leaf
 use Rattle.judge.specs.declared.Verdict.the-variants.{Granted}
 use Rattle.page.specs.declared.map.Found.the-variants.{Leaf}
-use Rattle.place.proofs.Reach.{Paged, place-aligned, place-paged, place-in-page, shadow-paged, store-off-shadow}
+use Rattle.place.proofs.Reach.{Paged, place-aligned, place-paged, place-in-page, shadow-paged}
 use Rattle.address.specs.Align.{alignedOf}
 use Rattle.address.specs.Control.{modeOf, pagedOf, regimeOf}
 use Rattle.address.specs.Mask.{maskedOf, transformedOf}
@@ -33,7 +32,10 @@ use Rattle.place.specs.Place.{base, frameOf, withinOf, Within, insideOf, physic
 use Rattle.place.specs.declared.Physical.{Physical}
 use Rattle.address.specs.declared.control.Control.{Control}
 use Rattle.place.specs.declared.Place.the-variants.{At}
-use Rattle.shadow.specs.Promise.{Entry, Shadow, StandsOnce, ValidLeaf, ValidShadow, leafAt}
+use Rattle.origin.proofs.Entries.{behind}
+use Rattle.origin.proofs.Users.{user-paged}
+use Rattle.origin.specs.Force.{leafAt, Entry, ValidLeaf}
+use Rattle.shadow.specs.Promise.{Shadow, StandsOnce, ValidShadow}
 
 -- the bytes lie in memory, so step 9 gives the place
 within : (k : Kind) (w : Width) (len p t : ℕ) (q : Physical) → q .0 ≡ p → Within len w (q .0) → insideOf k w len p t ≡ At q
@@ -92,31 +94,21 @@ pub one-entry : (c : Control) (map : List ℕ) → StandsOnce c map → (i j : �
     → ValidShadow c (leafAt map i) → ValidLeaf c (leafAt map j) → frameOf (leafAt map j) ≡ frameOf (leafAt map i) → j ≡ i
 one-entry c map once i j p q v w f = once i j p q v w f
 
--- so the entry of any other page has another frame
-other-frame : (c : Control) (map : List ℕ) → StandsOnce c map
-    → (page leaf : ℕ) → lookupOf map page ≡ Leaf leaf → ValidLeaf c leaf → shadowPage (c .sse) (leafOf leaf) ≡ false
-    → (o : ℕ) (x : Shadow c map o) → frameOf leaf ≡ frameOf (leafAt map (x .entry)) → ⊥
-other-frame c map once page leaf found taken off o x f =
-    let S = lookup-stands map page leaf found in
-    let i : S .place ≡ x .entry =
-    one-entry c map once (x .entry) (S .place) (x .stands) (S .inside) (x .valid) (subst (ValidLeaf c) (sym (S .word)) taken)
-    (ap frameOf (S .word) ∙ f) in
-    let l : leafAt map (x .entry) ≡ leaf = ap (leafAt map) (sym i) ∙ S .word in
-    true≢false (sym (x .valid .0) ∙ (ap (λ (e : ℕ). shadowPage (c .sse) (leafOf e)) l ∙ off))
-
-store-paged : (c : Control) → c .mode ≡ User → c .sv39 ≡ true → pagedOf (modeOf c kind.Store) (c .sv39) ≡ true
-unfolding modeOf
-store-paged c u s = rw (u, s)
+-- so the entry of a page that is no shadow page has another frame
+other-frame : (c : Control) (map : List ℕ) → StandsOnce c map → (i : ℕ) → Entry map i → ValidLeaf c (leafAt map i)
+    → shadowPage (c .sse) (leafOf (leafAt map i)) ≡ false → (o : ℕ) (x : Shadow c map o) → frameOf (leafAt map i) ≡ frameOf (leafAt map (x .entry)) → ⊥
+other-frame c map once i stands taken off o x f =
+    let e : i ≡ x .entry = one-entry c map once (x .entry) i (x .stands) stands (x .valid) taken f in
+    true≢false (sym (x .valid .0) ∙ (ap (λ (j : ℕ). shadowPage (c .sse) (leafOf (leafAt map j))) (sym e) ∙ off))
 
 -- an ordinary store stays beside every byte of a shadow page
 pub store-beside : (c : Control) (w : Width) (a : ℕ) (map : List ℕ) (len : ℕ) (q : Physical)
     → c .mode ≡ User → c .sv39 ≡ true → StandsOnce c map → placeOf c kind.Store w a map len ≡ At q
     → (o : ℕ) → Shadow c map o → (base + o < q .0) ⊎ (q .0 + sizeOf w ≤ base + o)
 store-beside c w a map len q user sv39 once e o x =
-    let paged = store-paged c user sv39 in
-    let P = place-paged c kind.Store w a map len q e paged in
-    let off = store-off-shadow c kind.Store w a map len q e refl paged (P .leaf) (P .entry) in
-    beside (q .0) (sizeOf w) (frameOf (P .leaf)) (transformedOf c (modeOf c kind.Store) kind.Store a) (base + o)
+    let B = behind c kind.Store w a map len q e (user-paged c kind.Store user sv39) in
+    let off = not-true (shadowPage (c .sse) (leafOf (leafAt map (B .entry)))) (B .held .own) in
+    beside (q .0) (sizeOf w) (frameOf (leafAt map (B .entry))) (transformedOf c (modeOf c kind.Store) kind.Store a) (base + o)
     (frameOf (leafAt map (x .entry)))
-    (P .frame) (place-in-page c kind.Store w a map len q e .0) (x .frame)
-    (other-frame c map once _ (P .leaf) (P .entry) (held (regimeOf c (modeOf c kind.Store)) (leafOf (P .leaf)) kind.Store (P .granted) .valid) off o x)
+    (B .frame) (place-in-page c kind.Store w a map len q e .0) (x .frame)
+    (other-frame c map once (B .entry) (B .stands) (B .valid) off o x)

@@ -7,15 +7,14 @@ use mathlib.Core.List.{List, [], _∷_, _++_, append-nil}
 use mathlib.Core.Path.{_≡_, refl, sym, ap, subst, _∙_}
 use Prim.Native.Nat.{ℕ, zero, suc, _<_, _≤_}
 use lib.ListN.{length}
-use native.Mathlib.Numerals.{add-one}
 use native.Mathlib.Omega.{arith}
 use borrow.Author.Tests.{le-ltb}
 use Rattle.word.specs.Choice.{pick}
 use Rattle.effect.specs.declared.Effect.{Effect}
 use Rattle.meaning.specs.declared.Source.{Source}
 use Rattle.meaning.specs.declared.Source.the-variants.{Fetch}
-use Rattle.hart.proofs.Compose.{onward, run-composes}
-use Rattle.hart.proofs.Turns.{one-step}
+use Rattle.hart.proofs.Compose.{onward}
+use Rattle.hart.proofs.Longer.{run-longer}
 use Rattle.hart.specs.Run.{Run, once, runFrom, runOf}
 use Rattle.hart.specs.Step.{planOf, stepFrom}
 use Rattle.hart.specs.declared.Hart.{Hart}
@@ -38,16 +37,6 @@ unfoldable pub runEvents : (n : ℕ) → Hart → (m map : List ℕ) → List Ev
 runEvents zero h m map = []
 runEvents (suc n) h m map =
     pick (runOf n h m map .trapped) (runEvents n h m map) (eventOf (effectAfter n h m map) ∷ runEvents n h m map)
-
--- a run, and where it did not trap one step more
-abbrev longer : Run → (map : List ℕ) → Run
-longer r map = onward (r .trapped) r (once (stepFrom Fetch (r .hart) (r .memory) map))
-
-pub run-longer : (n : ℕ) (h : Hart) (m map : List ℕ) → runOf (suc n) h m map ≡ longer (runOf n h m map) map
-run-longer n h m map =
-    ap (λ (k : ℕ). runOf k h m map) (sym (add-one n))
-    ∙ run-composes n 1 h m map
-    ∙ ap (onward (runOf n h m map .trapped) (runOf n h m map)) (one-step Fetch (runOf n h m map .hart) (runOf n h m map .memory) map)
 
 -- it has an event for each step
 one-counted : (t : Bool) (e : Event) (es : List Event) (r rest : Run) → length es ≡ r .count → rest .count ≡ 1

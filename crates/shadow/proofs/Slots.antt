@@ -12,13 +12,12 @@ use Rattle.word.proofs.Either.{either}
 use Rattle.word.specs.Sign.{signExtendOf}
 use Rattle.word.specs.Sum.{sumOf, differenceOf}
 use Rattle.isa.specs.declared.Width.the-variants.{Double}
-use Rattle.page.proofs.Entries.{lookup-stands}
 use Rattle.judge.proofs.Grants.{held}
 use Rattle.leaf.specs.Leaf.{leafOf}
 use Rattle.page.specs.declared.Kind.the-variants as kind
 use Rattle.page.specs.declared.Mode.the-variants.{User}
 use Rattle.page.specs.declared.Mode.{Mode}
-use Rattle.place.proofs.Reach.{Paged, place-aligned, place-paged, shadow-paged}
+use Rattle.place.proofs.Reach.{place-aligned, shadow-paged}
 use Rattle.address.specs.Control.{modeOf, regimeOf}
 use Rattle.address.specs.Mask.{pmlenOf, maskOf, transformedOf}
 use Rattle.place.specs.Place.{base, frameOf, Within, canonicalOf, pageNumber, reachedOf, placeOf}
@@ -26,7 +25,9 @@ use Rattle.place.specs.declared.Physical.{Physical}
 use Rattle.address.specs.declared.control.Control.{Control}
 use Rattle.place.specs.declared.Place.{Place}
 use Rattle.place.specs.declared.Place.the-variants.{At}
-use Rattle.shadow.specs.Promise.{Shadow, StandsOnce, ValidShadow, Entry, leafAt}
+use Rattle.origin.proofs.Entries.{Behind, behind}
+use Rattle.origin.specs.Force.{leafAt, Entry}
+use Rattle.shadow.specs.Promise.{Shadow, StandsOnce, ValidShadow}
 use Rattle.shadow.proofs.Cycles.{Masked, masked, rankOf, rank-step, rank-back, rank-same, rank-inj, gap, sign-same, sign-inj, sign-lt, canonical-inj}
 use Rattle.shadow.proofs.Geometry.{Geometry}
 use Rattle.shadow.proofs.Places.{one-entry}
@@ -86,25 +87,20 @@ module _ (c : Control) (map : List ℕ) (len : ℕ) (user : c .mode ≡ User) (s
     aligned : virtual a % 8 ≡ 0
     within : Within len Double (q .0)
 
-  paged : (a : ℕ) (q : Physical) → slot a ≡ At q → Paged (regimeOf c m) kind.Pop Double (virtual a) map len q
-  paged a q e =
-      subst (λ (t : ℕ). Paged (regimeOf c m) kind.Pop Double t map len q) (transformed a)
-      (place-paged c kind.Pop Double a map len q e (shadow-paged c kind.Pop Double a map len q e refl))
-
   reads : (a : ℕ) (q : Physical) → slot a ≡ At q → Reads a q
   reads a q e =
-      let P = paged a q e in
-      let S = lookup-stands map (pageNumber (virtual a)) (P .leaf) (P .entry) in
-      let H = held (regimeOf c m) (leafOf (P .leaf)) kind.Pop (P .granted) in
+      let B : Behind c kind.Pop Double (virtual a) map len q =
+      subst (λ (t : ℕ). Behind c kind.Pop Double t map len q) (transformed a)
+      (behind c kind.Pop Double a map len q e (shadow-paged c kind.Pop Double a map len q e refl)) in
       record {
-        entry = S .place;
-        stands = S .inside;
-        valid = subst (ValidShadow c) (sym (S .word)) (H .own, H .valid);
-        canonical = P .canonical;
-        number = S .number;
-        frame = rw (S .word) (P .frame);
+        entry = B .entry;
+        stands = B .stands;
+        valid = (B .held .own, B .valid);
+        canonical = B .canonical;
+        number = B .number;
+        frame = B .frame;
         aligned = subst (λ (t : ℕ). t % 8 ≡ 0) (transformed a) (place-aligned c kind.Pop Double a map len q e);
-        within = P .within;
+        within = B .within;
       }
 
   -- a permitted slot is not in the gap, so the rank rises

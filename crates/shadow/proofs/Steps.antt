@@ -1,7 +1,7 @@
--- A step of a stretch keeps the invariant, along the cases of its effect: in user mode a completed step keeps the mode and the CSRs;
--- only a push changes a shadow byte, and only a push or a pop moves the pointer.
+-- A step of a stretch keeps the invariant, along the cases of its effect: only a push changes a shadow byte, and only a push or a pop
+-- moves the pointer.
 -- Assumes nothing.
-use mathlib.Core.Bool.{Bool, true, false, true≢false}
+use mathlib.Core.Bool.{Bool, true, false}
 use mathlib.Core.List.{List, _∷_}
 use mathlib.Core.Logic.{_⊎_, inl, inr}
 use mathlib.Core.Path.{_≡_, refl, sym, ap, ap₂, _∙_}
@@ -32,17 +32,16 @@ use Rattle.effect.specs.declared.Effect.the-variants as effect
 use Rattle.meaning.specs.declared.Source.{Source}
 use Rattle.effect.specs.declared.Whole.{Whole}
 use Rattle.effect.specs.declared.Whole.the-variants as whole
-use Rattle.status.specs.Mode.{modeOf}
 use Rattle.hart.proofs.Kept.{trap-keeps}
-use Rattle.regime.specs.Regime.{controlOf}
-use Rattle.bank.specs.Setting.{settingOf}
 use Rattle.transfer.specs.Commit.{memoryOf}
 use Rattle.hart.specs.Step.{changedOf, csrOf, wholeOf, applyOf, trapsOf, planOf, stepFrom}
 use Rattle.hart.specs.declared.Hart.{Hart}
-use Rattle.shadow.specs.Promise.{inForce, StandsOnce, Event, quiet, eventOf, NoSwap, NoPointerWrite, Shadow}
+use Rattle.origin.proofs.Origins.{Origin, WholeOrigin, origin}
+use Rattle.origin.proofs.Users.{in-user, Same, same-on, same-force, user-keeps}
+use Rattle.origin.specs.Force.{inForce}
+use Rattle.shadow.specs.Promise.{StandsOnce, Event, quiet, eventOf, NoSwap, NoPointerWrite, Shadow}
 use Rattle.shadow.proofs.Geometry.{Geometry}
 use Rattle.shadow.proofs.Invariant.{Inv, inv-quiet, inv-pop, inv-push}
-use Rattle.shadow.proofs.Origins.{Origin, WholeOrigin, origin}
 use Rattle.shadow.proofs.Places.{push-pop, store-beside}
 
 -- a store that stays beside a byte leaves it
@@ -52,11 +51,6 @@ untouched : (m : List ℕ) (q : Physical) (w : Width) (v o : ℕ) → base ≤ q
 untouched m q w v o l f (inl b) = byte-before m (q .0 - base) (sizeOf w) v (omega arith) o (omega arith)
 untouched m q w v o l f (inr b) = byte-after m (q .0 - base) (sizeOf w) v (omega arith) o (omega arith)
 
--- the mode of a hart in user mode
-pub in-user : (h : Hart) → h .mode ≡ 0 → inForce h .mode ≡ User
-unfolding settingOf controlOf modeOf
-in-user h e = rw e
-
 module _ (map : List ℕ) (h₀ : Hart) (m₀ : List ℕ) where
   abbrev c : Control
   c = inForce h₀
@@ -64,17 +58,10 @@ module _ (map : List ℕ) (h₀ : Hart) (m₀ : List ℕ) where
   abbrev pub slot : ℕ → Place
   slot a = placeOf c kind.Pop Double a map (length m₀)
 
-  -- what no completed step changes
-  abbrev pub Same : Hart → Type 0
-  Same h = (h .mode ≡ h₀ .mode) × (h .csrs ≡ h₀ .csrs)
-
-  -- so the regime in force stays, and an access is given the place that it would be given at the start
-  same-force : (h : Hart) → Same h → inForce h ≡ c
-  same-force h s = rw (s .0, s .1)
-
-  pub as-at-start : (h : Hart) (m : List ℕ) → Same h → length m ≡ length m₀ → (k : Kind) (w : Width) (a : ℕ) (q : Physical)
+  -- a hart with the mode and CSRs of the start is given the place that it would be given there
+  pub as-at-start : (h : Hart) (m : List ℕ) → Same h₀ h → length m ≡ length m₀ → (k : Kind) (w : Width) (a : ℕ) (q : Physical)
       → placeOf (inForce h) k w a map (length m) ≡ At q → placeOf c k w a map (length m₀) ≡ At q
-  as-at-start h m s l k w a q e = ap₂ (λ (d : Control) (n : ℕ). placeOf d k w a map n) (sym (same-force h s)) (sym l) ∙ e
+  as-at-start h m s l k w a q e = ap₂ (λ (d : Control) (n : ℕ). placeOf d k w a map n) (sym (same-force h₀ h s)) (sym l) ∙ e
 
   module _ (G : Geometry slot (Shadow c map) (length m₀)) (user : h₀ .mode ≡ 0) (sv39 : c .sv39 ≡ true) (once : StandsOnce c map) where
     abbrev pub Holds : List Event → (ssp : ℕ) → (m : List ℕ) → Type 0
@@ -82,9 +69,9 @@ module _ (map : List ℕ) (h₀ : Hart) (m₀ : List ℕ) where
 
     -- what a step of effect e leaves
     abbrev pub Left : List Event → Hart → (m : List ℕ) → Effect → Type 0
-    Left es h m e = (trapsOf e ≡ false → Same (applyOf e h)) × Holds (eventOf e ∷ es) (applyOf e h .ssp) (memoryOf e m)
+    Left es h m e = Holds (eventOf e ∷ es) (applyOf e h .ssp) (memoryOf e m)
 
-    module _ (source : Source) (es : List Event) (h : Hart) (m : List ℕ) (same : Same h) (I : Holds es (h .ssp) m) where
+    module _ (source : Source) (es : List Event) (h : Hart) (m : List ℕ) (same : Same h₀ h) (I : Holds es (h .ssp) m) where
       -- memory and the pointer as they were
       rests : Holds (quiet ∷ es) (h .ssp) m
       rests = inv-quiet slot (Shadow c map) (length m₀) G (h₀ .ssp) m₀ es (h .ssp) m m I (I .long) (λ o x. refl)
@@ -94,26 +81,23 @@ module _ (map : List ℕ) (h₀ : Hart) (m₀ : List ℕ) where
           → placeOf c k w a map (length m₀) ≡ At q
       placed = as-at-start h m same (I .long)
 
-      store-left : (q : Physical) (w : Width) (v next : ℕ) → (a : ℕ) × (placeOf (inForce h) kind.Store w a map (length m) ≡ At q)
+      store-left : (q : Physical) (w : Width) (v next a : ℕ) → placeOf (inForce h) kind.Store w a map (length m) ≡ At q
           → Left es h m (Store q w v next)
-      store-left q w v next o =
-          let (a, e) = o in
+      store-left q w v next a e =
           let f = placed kind.Store w a q e in
           let i = place-within c kind.Store w a map (length m₀) q f in
-          let n : length m ≡ length m₀ = I .long in (
-            (λ t. same),
-            inv-quiet slot (Shadow c map) (length m₀) G (h₀ .ssp) m₀ es (h .ssp) m (storeOf m (q .0 - base) (sizeOf w) v) I
-                (length-store m (q .0 - base) (sizeOf w) v (omega (arith, n, i .0, i .1)) ∙ n)
-                (λ o x.
-                untouched m q w v o (i .0) (omega (arith, n, i .1))
-                (store-beside c w a map (length m₀) q (in-user h₀ user) sv39 once f o x)),
-          )
+          let n : length m ≡ length m₀ = I .long in
+          inv-quiet slot (Shadow c map) (length m₀) G (h₀ .ssp) m₀ es (h .ssp) m (storeOf m (q .0 - base) (sizeOf w) v) I
+          (length-store m (q .0 - base) (sizeOf w) v (omega (arith, n, i .0, i .1)) ∙ n)
+          (λ o x.
+          untouched m q w v o (i .0) (omega (arith, n, i .1))
+          (store-beside c w a map (length m₀) q (in-user h₀ user) sv39 once f o x))
 
       csr-left : (o : CsrOperation) (n : Csr) (writes : Bool) (v rd next : ℕ) → n ≡ Ssp
           → NoPointerWrite (effect.Whole (whole.Csr o n writes v rd next)) → Left es h m (effect.Whole (whole.Csr o n writes v rd next))
       unfolding wholeOf csrOf changedOf
       csr-left o n true v rd next e np = absurd (np o v rd next (ap (λ (k : Csr). effect.Whole (whole.Csr o k true v rd next)) e))
-      csr-left o n false v rd next e np = ((λ t. same), rests)
+      csr-left o n false v rd next e np = rests
 
       user-here : inForce h .mode ≡ User
       user-here = in-user h (same .0 ∙ user)
@@ -124,30 +108,29 @@ module _ (map : List ℕ) (h₀ : Hart) (m₀ : List ℕ) where
       whole-left whole.Sret w np = absurd (w user-here)
 
       effect-left : (e : Effect) → Origin source h m map e → NoSwap e → NoPointerWrite e → Left es h m e
-      effect-left (Write rd v next) o ns np = ((λ t. same), rests)
-      effect-left (Jump rd link next elp) o ns np = ((λ t. same), rests)
-      effect-left (Pad next) o ns np = ((λ t. same), rests)
-      effect-left (Store q w v next) o ns np = store-left q w v next o
+      effect-left (Write rd v next) o ns np = rests
+      effect-left (Jump rd link next elp) o ns np = rests
+      effect-left (Pad next) o ns np = rests
+      effect-left (Store q w v next) o ns np = store-left q w v next _ (o .place)
       effect-left (Push q v ssp next) o ns np =
-          let (s, p) = o in (
-            (λ t. same),
-            rw s
-                (inv-push slot (Shadow c map) (length m₀) G (h₀ .ssp) m₀ es (h .ssp) m v q I
-                (push-pop c Double (differenceOf (h .ssp) 8) map (length m₀) q (placed kind.Push Double (differenceOf (h .ssp) 8) q (p .place)))),
-          )
+          let (s, S, holds) = o in
+          rw s
+          (inv-push slot (Shadow c map) (length m₀) G (h₀ .ssp) m₀ es (h .ssp) m v q I
+          (push-pop c Double (differenceOf (h .ssp) 8) map (length m₀) q (placed kind.Push Double (differenceOf (h .ssp) 8) q (S .place))))
       effect-left (Pop ssp next) o ns np =
-          let (s, v, q, p) = o in (
-            (λ t. same),
-            rw s
-                (inv-pop slot (Shadow c map) (length m₀) G (h₀ .ssp) m₀ es (h .ssp) m q I (placed kind.Pop Double (h .ssp) q (p .place))),
-          )
+          let (s, q, S, equal) = o in
+          rw s
+          (inv-pop slot (Shadow c map) (length m₀) G (h₀ .ssp) m₀ es (h .ssp) m q I (placed kind.Pop Double (h .ssp) q (S .place)))
       effect-left (Swap rd old q w v next) o ns np = absurd (ns rd old q w v next refl)
       effect-left (effect.Whole k) o ns np = whole-left k o np
-      effect-left (Trap cause tval) o ns np = ((λ t. absurd (true≢false t)), rw (trap-keeps h cause tval .ssp) rests)
+      effect-left (Trap cause tval) o ns np = rw (trap-keeps h cause tval .ssp) rests
 
       -- a step of a stretch
       pub step-left : NoSwap (planOf source h m map) → NoPointerWrite (planOf source h m map)
-          → (stepFrom source h m map .trapped ≡ false → Same (stepFrom source h m map .hart))
+          → (stepFrom source h m map .trapped ≡ false → Same h₀ (stepFrom source h m map .hart))
           × Holds (eventOf (planOf source h m map) ∷ es) (stepFrom source h m map .hart .ssp) (stepFrom source h m map .memory)
       unfolding stepFrom
-      step-left ns np = effect-left (planOf source h m map) (origin source h m map) ns np
+      step-left ns np = (
+        (λ t. same-on h₀ h (applyOf (planOf source h m map) h) same (user-keeps source h m map user-here t)),
+        effect-left (planOf source h m map) (origin source h m map) ns np,
+      )

@@ -35,8 +35,40 @@ use Rattle.meaning.specs.declared.Fetched.the-variants.{Word}
 use Rattle.bank.specs.Setting.{settingOf}
 use Rattle.hart.specs.Step.{planOf}
 use Rattle.hart.specs.declared.Hart.{Hart}
-use Rattle.shadow.specs.Promise.{inForce, padStops, PopCheck, Permitted}
-use Rattle.shadow.proofs.Origins.{PushStep, PopStep, SwapStep, CsrStep, Origin, origin}
+use Rattle.origin.proofs.Origins.{AccessStep, CsrStep, Origin, origin}
+use Rattle.origin.specs.Force.{inForce}
+use Rattle.shadow.specs.Promise.{padStops, PopCheck, Permitted}
+
+-- a push that the definition executes as one: the word that the step fetches or is given is a push of a register that holds v, no pad
+-- check stops it, the shadow stack is on, and its access to the eight bytes below the pointer is permitted, at q
+pub record PushStep (source : Source) (h : Hart) (m map : List ℕ) (v : ℕ) (q : Physical) : Type 0 where
+  pub word : ℕ
+  pub rd : ℕ
+  pub rs1 : ℕ
+  pub rs2 : ℕ
+  pub off : ℕ
+  pub arrives : fetchedOf source (inForce h) (h .pc) m map ≡ Word word
+  pub passes : padStops h word ≡ false
+  pub reads : decodeOf word ≡ Memory access.Push rd rs1 rs2 off
+  pub register : v ≡ regOf (h .x) rs2
+  pub on : settingOf (h .mode) (h .csrs) .shadow ≡ true
+  pub place : placeOf (inForce h) kind.Push Double (pushOf (h .ssp)) map (length m) ≡ At q
+
+-- a pop-check that the definition completes
+pub record PopStep (source : Source) (h : Hart) (m map : List ℕ) (v : ℕ) (q : Physical) : Type 0 where
+  pub check : PopCheck source h m map v
+  pub on : settingOf (h .mode) (h .csrs) .shadow ≡ true
+  pub place : Permitted h m map q
+  pub equal : v ≡ readOf m q Double
+
+-- a push or pop-check is done where the shadow stack is on
+open-on : (b : Bool) → pick b gate.Open gate.Off ≡ gate.Open → b ≡ true
+open-on true e = refl
+open-on false e = absurd (let z : _≡_ {A = ℕ} 0 1 = cc in omega arith)
+
+-- a pad check that is not made stops nothing
+unstopped : (h : Hart) (w : ℕ) → (h .elp && settingOf (h .mode) (h .csrs) .pad) ≡ false → padStops h w ≡ false
+unstopped h w e = rw e
 
 -- a landing pad is an AUIPC
 pad-auipc : (w x7 : ℕ) → isPad w x7 ≡ true → decodeOf w ≡ Auipc (fieldsOf w .rd) (immU w)
@@ -77,7 +109,21 @@ module _ (source : Source) (h : Hart) (m map : List ℕ) (v : ℕ) (q : Physical
 
   -- and nothing else has
   pub push-is : (ssp next : ℕ) → planOf source h m map ≡ Push q v ssp next → PushStep source h m map v q
-  push-is ssp next e = subst (Origin source h m map) e (origin source h m map) .1
+  push-is ssp next e =
+      let (moved, S, holds) = subst (Origin source h m map) e (origin source h m map) in
+      record {
+        word = S .word;
+        rd = S .rd;
+        rs1 = S .rs1;
+        rs2 = S .rs2;
+        off = S .off;
+        arrives = S .arrives;
+        passes = unstopped h (S .word) (S .unchecked);
+        reads = S .reads;
+        register = holds;
+        on = open-on _ (S .opened);
+        place = S .place;
+      }
 
   -- a pop-check compares what stands at the pointer with its register
   pub check-does : PopCheck source h m map v → settingOf (h .mode) (h .csrs) .shadow ≡ true → Permitted h m map q
@@ -114,7 +160,7 @@ pad-stops source h m map w a s =
 
 -- an effect `Swap` is a swap's
 pub swap-is : (source : Source) (h : Hart) (m map : List ℕ) (rd old : ℕ) (q : Physical) (w : Width) (v next : ℕ)
-    → planOf source h m map ≡ Swap rd old q w v next → SwapStep source h m map w
+    → planOf source h m map ≡ Swap rd old q w v next → (aq rl : Bool) × AccessStep source h m map (access.Swap w aq rl) q
 swap-is source h m map rd old q w v next e = subst (Origin source h m map) e (origin source h m map)
 
 -- and one that writes ssp is that of a CSR instruction that writes
@@ -126,5 +172,23 @@ pointer-write-is source h m map o v rd next e = subst (Origin source h m map) e 
 pub pop-is : (source : Source) (h : Hart) (m map : List ℕ) (ssp next : ℕ) → planOf source h m map ≡ Pop ssp next
     → (v : ℕ) × (q : Physical) × PopStep source h m map v q
 pop-is source h m map ssp next e =
-    let (moved, v, q, p) = subst (Origin source h m map) e (origin source h m map) in
-    (v, q, p)
+    let (moved, q, S, equal) = subst (Origin source h m map) e (origin source h m map) in (
+      regOf (h .x) (S .rs1),
+      q,
+      record {
+        check = record {
+          word = S .word;
+          rd = S .rd;
+          rs1 = S .rs1;
+          rs2 = S .rs2;
+          off = S .off;
+          arrives = S .arrives;
+          passes = unstopped h (S .word) (S .unchecked);
+          reads = S .reads;
+          register = refl;
+        };
+        on = open-on _ (S .opened);
+        place = S .place;
+        equal = equal;
+      },
+    )

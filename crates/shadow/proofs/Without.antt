@@ -46,7 +46,8 @@ use Rattle.hart.specs.Setters.{withPc, withMode, withSsp, withCsrs}
 use Rattle.hart.specs.Step.{withReg, changedOf, csrOf, wholeOf, planOf, stepFrom}
 use Rattle.hart.specs.declared.Hart.{Hart}
 use Rattle.call.specs.Call.{refusalOf}
-use Rattle.shadow.specs.Promise.{inForce, StandsOnce, Starts, quiet, NoSwap, NoPointerWrite, Stretch, start, pushes, pops, Shadow, latest, PopCheck, Permitted, unmatched, Promise}
+use Rattle.origin.specs.Force.{inForce}
+use Rattle.shadow.specs.Promise.{StandsOnce, Starts, quiet, NoSwap, NoPointerWrite, Stretch, start, pushes, pops, Shadow, latest, PopCheck, Permitted, unmatched, Promise}
 use Rattle.shadow.proofs.Witness.{memory₀, map₀, hart₀, once₀, no-swap, no-pointer-write, then}
 
 -- the hypotheses on the start, one by one

@@ -40,7 +40,8 @@ use Rattle.hart.specs.Step.{applyOf, trapsOf, planOf, stepFrom}
 use Rattle.hart.specs.Trap.{trapOf}
 use Rattle.hart.specs.declared.Hart.{Hart}
 use Rattle.call.specs.Call.{refusalOf}
-use Rattle.shadow.specs.Promise.{inForce, StandsOnce, Starts, Event, pushed, popped, quiet, eventOf, NoSwap, NoPointerWrite, Stretch, start, step, Shadow, PopCheck, Permitted, unmatched, matchOf}
+use Rattle.origin.specs.Force.{inForce}
+use Rattle.shadow.specs.Promise.{StandsOnce, Starts, Event, pushed, popped, quiet, eventOf, NoSwap, NoPointerWrite, Stretch, start, step, Shadow, PopCheck, Permitted, unmatched, matchOf}
 use Rattle.shadow.proofs.Demand.{shadow-stack}
 
 -- sspush x1, sspush x5, sspopchk x5, sspopchk x1, sspopchk x1, sspush x5, sspopchk x1

@@ -7,11 +7,12 @@ use Prim.Native.Nat.{ℕ, zero, suc}
 use native.Mathlib.Omega.{arith}
 use Rattle.effect.specs.declared.Effect.{Effect}
 use Rattle.meaning.specs.declared.Source.the-variants.{Fetch}
+use Rattle.hart.proofs.Longer.{run-longer}
 use Rattle.hart.specs.Run.{Run, after, stayed, once, runFrom, runOf}
 use Rattle.hart.specs.Step.{outcomeOf, planOf, stepFrom}
 use Rattle.call.specs.Call.{runRefusalOf, takenWith, runCall}
 use Rattle.shadow.specs.Promise.{NoSwap, NoPointerWrite, Promise}
-use Rattle.shadow.proofs.Runs.{effectAfter, Undisturbed, runEvents, run-longer, run-keeps}
+use Rattle.shadow.proofs.Runs.{effectAfter, Undisturbed, runEvents, run-keeps}
 use Rattle.shadow.proofs.Witness.{memory₀, memory₁, memory₂, memory₃, map₀, hart₀, hart₁, hart₂, hart₃, hart₄, hart₅, hart₆, hart₇, starts, effects, sortOf, no-swap, no-pointer-write}
 
 -- n steps

@@ -48,22 +48,7 @@ use Rattle.bank.specs.Setting.{settingOf}
 use Rattle.hart.specs.Step.{planOf, stepFrom}
 use Rattle.hart.specs.declared.Hart.{Hart}
 use Rattle.call.specs.Call.{refusalOf}
-
--- what the mode and the CSRs say about accesses: the regime in force
-abbrev pub inForce : Hart → Control
-inForce h = settingOf (h .mode) (h .csrs) .control
-
--- the leaf word of entry i of the map, which has two words an entry
-abbrev pub leafAt : (map : List ℕ) → (i : ℕ) → ℕ
-leafAt map i = getD map (suc (2 * i)) 0
-
--- entry i is one of the map's
-abbrev pub Entry : (map : List ℕ) → (i : ℕ) → Type 0
-Entry map i = 2 * i + 2 ≤ length map
-
--- step 5 takes the leaf word e as a page's
-abbrev pub ValidLeaf : Control → (e : ℕ) → Type 0
-ValidLeaf c e = validLeaf (hasRight (leafOf e)) (shadowPage (c .sse) (leafOf e)) (leafOf e) ≡ true
+use Rattle.origin.specs.Force.{inForce, leafAt, Entry, ValidLeaf}
 
 -- "a valid shadow page": and the page is a shadow page
 abbrev pub ValidShadow : Control → (e : ℕ) → Type 0

@@ -1,6 +1,6 @@
--- What a step's effect comes from, along the cases of the step's definition: an effect `Push` is a push that the definition executes as one,
--- and `Pop` a pop-check that found its register's value; an ordinary store has the place that a store was given; and in user mode a
--- CSR instruction names no CSR but ssp.
+-- What a step's effect comes from, along the cases of the step's definition: an effect that stores is that of an instruction whose access was
+-- given the place; `Push` is a push that the definition executes as one, and `Pop` a pop-check that found its register's value; and in
+-- user mode a CSR instruction names no CSR but ssp.
 -- Assumes nothing.
 use mathlib.Core.Bool.{Bool, true, false, _&&_}
 use mathlib.Core.List.{List}
@@ -59,41 +59,21 @@ use Rattle.meaning.specs.declared.Fetched.the-variants as fetched
 use Rattle.bank.specs.Setting.{settingOf}
 use Rattle.hart.specs.Step.{planOf}
 use Rattle.hart.specs.declared.Hart.{Hart}
-use Rattle.shadow.specs.Promise.{inForce, padStops, PopCheck, Permitted}
+use Rattle.origin.specs.Force.{inForce}
 
--- a push that the definition executes as one: the word that the step fetches or is given is a push of a register that holds v, no pad
--- check stops it, the shadow stack is on, and its access to the eight bytes below the pointer is permitted, at q
-pub record PushStep (source : Source) (h : Hart) (m map : List ℕ) (v : ℕ) (q : Physical) : Type 0 where
+-- an instruction that accesses memory and is given the place q: the word that the step fetches or is given is one, no landing pad check is
+-- made, the instruction is on and legal, and its access is permitted, at q
+pub record AccessStep (source : Source) (h : Hart) (m map : List ℕ) (k : Access) (q : Physical) : Type 0 where
   pub word : ℕ
   pub rd : ℕ
   pub rs1 : ℕ
   pub rs2 : ℕ
   pub off : ℕ
   pub arrives : fetchedOf source (inForce h) (h .pc) m map ≡ fetched.Word word
-  pub passes : padStops h word ≡ false
-  pub reads : decodeOf word ≡ Memory access.Push rd rs1 rs2 off
-  pub register : v ≡ regOf (h .x) rs2
-  pub on : settingOf (h .mode) (h .csrs) .shadow ≡ true
-  pub place : placeOf (inForce h) kind.Push Double (pushOf (h .ssp)) map (length m) ≡ At q
-
--- a pop-check that the definition completes
-pub record PopStep (source : Source) (h : Hart) (m map : List ℕ) (v : ℕ) (q : Physical) : Type 0 where
-  pub check : PopCheck source h m map v
-  pub on : settingOf (h .mode) (h .csrs) .shadow ≡ true
-  pub place : Permitted h m map q
-  pub equal : v ≡ readOf m q Double
-
--- a swap of a width: the word that the step fetches or is given is one
-pub record SwapStep (source : Source) (h : Hart) (m map : List ℕ) (w : Width) : Type 0 where
-  pub word : ℕ
-  pub aq : Bool
-  pub rl : Bool
-  pub rd : ℕ
-  pub rs1 : ℕ
-  pub rs2 : ℕ
-  pub off : ℕ
-  pub arrives : fetchedOf source (inForce h) (h .pc) m map ≡ fetched.Word word
-  pub reads : decodeOf word ≡ Memory (access.Swap w aq rl) rd rs1 rs2 off
+  pub unchecked : (h .elp && settingOf (h .mode) (h .csrs) .pad) ≡ false
+  pub reads : decodeOf word ≡ Memory k rd rs1 rs2 off
+  pub opened : gateOf k (settingOf (h .mode) (h .csrs) .shadow) (settingOf (h .mode) (h .csrs) .permitted) ≡ gate.Open
+  pub place : placeOf (inForce h) (kindOf k) (widthOf k) (addressOf k (sumOf (regOf (h .x) rs1) off) (h .ssp)) map (length m) ≡ At q
 
 -- a CSR instruction that names the CSR n, and whether it writes
 pub record CsrStep (source : Source) (h : Hart) (m map : List ℕ) (o : CsrOperation) (n : csr.Csr) (writes : Bool) (rd : ℕ) : Type 0 where
@@ -104,10 +84,6 @@ pub record CsrStep (source : Source) (h : Hart) (m map : List ℕ) (o : CsrOpera
   pub reads : decodeOf word ≡ Csr o from rd address
   pub names : reachOf (inForce h .mode) (settingOf (h .mode) (h .csrs) .permitted) address ≡ reached.To n
   pub wrote : writes ≡ writesOf o (fieldOf from)
-
-open-on : (b : Bool) → pick b gate.Open gate.Off ≡ gate.Open → b ≡ true
-open-on true e = refl
-open-on false e = absurd (let z : _≡_ {A = ℕ} 0 1 = cc in omega arith)
 
 module _ (source : Source) (h : Hart) (m map : List ℕ) where
   abbrev s : Setting
@@ -123,10 +99,11 @@ module _ (source : Source) (h : Hart) (m map : List ℕ) where
   Origin (Write rd v next) = Unit {0}
   Origin (Jump rd link next elp) = Unit {0}
   Origin (Pad next) = Unit {0}
-  Origin (Store q w v next) = (a : ℕ) × (placeOf (inForce h) kind.Store w a map (length m) ≡ At q)
-  Origin (Push q v ssp next) = (ssp ≡ pushOf (h .ssp)) × PushStep source h m map v q
-  Origin (Pop ssp next) = (ssp ≡ sumOf (h .ssp) 8) × (v : ℕ) × (q : Physical) × PopStep source h m map v q
-  Origin (Swap rd old q w v next) = SwapStep source h m map w
+  Origin (Store q w v next) = AccessStep source h m map (access.Store w) q
+  Origin (Push q v ssp next) = (ssp ≡ pushOf (h .ssp)) × (S : AccessStep source h m map access.Push q) × (v ≡ regOf (h .x) (S .rs2))
+  Origin (Pop ssp next) =
+      (ssp ≡ sumOf (h .ssp) 8) × (q : Physical) × (S : AccessStep source h m map access.Pop q) × (regOf (h .x) (S .rs1) ≡ readOf m q Double)
+  Origin (Swap rd old q w v next) = (aq rl : Bool) × AccessStep source h m map (access.Swap w aq rl) q
   Origin (effect.Whole k) = WholeOrigin k
   Origin (Trap cause tval) = Unit {0}
 
@@ -156,8 +133,8 @@ module _ (source : Source) (h : Hart) (m map : List ℕ) where
   sret-origin Supervisor word e = λ u. let z : Supervisor ≡ User = sym e ∙ u in let y : _≡_ {A = ℕ} 0 1 = cc in omega arith
   sret-origin Machine word e = λ u. let z : Machine ≡ User = sym e ∙ u in let y : _≡_ {A = ℕ} 0 1 = cc in omega arith
 
-  -- the word of the step, and what is known of it once no pad check stops it
-  module _ (word : ℕ) (arrives : fetchedOf source (inForce h) (h .pc) m map ≡ fetched.Word word) (passes : padStops h word ≡ false) where
+  -- the word of the step, and what is known of it where no landing pad check is made
+  module _ (word : ℕ) (arrives : fetchedOf source (inForce h) (h .pc) m map ≡ fetched.Word word) (unchecked : (h .elp && s .pad) ≡ false) where
     module _ (rd rs1 rs2 off : ℕ) where
       abbrev a : ℕ
       a = regOf (h .x) rs1
@@ -165,56 +142,38 @@ module _ (source : Source) (h : Hart) (m map : List ℕ) where
       abbrev b : ℕ
       b = regOf (h .x) rs2
 
-      popped-origin : (q : Physical) → decodeOf word ≡ Memory access.Pop rd rs1 rs2 off → s .shadow ≡ true → Permitted h m map q
-          → (t : Bool) → eqb (readOf m q Double) a ≡ t → Origin (pick t (Pop (sumOf (h .ssp) 8) (nextOf (h .pc))) (Trap 18 3))
-      popped-origin q reads on place true e = (
-        refl,
-        a,
-        q,
-        record {
-          check = record {
-            word = word;
-            rd = rd;
-            rs1 = rs1;
-            rs2 = rs2;
-            off = off;
-            arrives = arrives;
-            passes = passes;
-            reads = reads;
-            register = refl;
-          };
-          on = on;
-          place = place;
-          equal = sym (eqb-true (readOf m q Double) a e);
-        },
-      )
-      popped-origin q reads on place false e = tt
+      -- such an instruction, given its place
+      given : (k : Access) (q : Physical) → decodeOf word ≡ Memory k rd rs1 rs2 off → gateOf k (s .shadow) (s .permitted) ≡ gate.Open
+          → placeOf (inForce h) (kindOf k) (widthOf k) (addressOf k (sumOf a off) (h .ssp)) map (length m) ≡ At q
+          → AccessStep source h m map k q
+      given k q reads opened place = record {
+        word = word;
+        rd = rd;
+        rs1 = rs1;
+        rs2 = rs2;
+        off = off;
+        arrives = arrives;
+        unchecked = unchecked;
+        reads = reads;
+        opened = opened;
+        place = place;
+      }
+
+      popped-origin : (q : Physical) (S : AccessStep source h m map access.Pop q) → (t : Bool) → eqb (readOf m q Double) (regOf (h .x) (S .rs1)) ≡ t
+          → Origin (pick t (Pop (sumOf (h .ssp) 8) (nextOf (h .pc))) (Trap 18 3))
+      popped-origin q S true e = (refl, q, S, sym (eqb-true (readOf m q Double) (regOf (h .x) (S .rs1)) e))
+      popped-origin q S false e = tt
 
       done-origin : (k : Access) (q : Physical) → decodeOf word ≡ Memory k rd rs1 rs2 off → gateOf k (s .shadow) (s .permitted) ≡ gate.Open
           → placeOf (inForce h) (kindOf k) (widthOf k) (addressOf k (sumOf a off) (h .ssp)) map (length m) ≡ At q
           → Origin (doneOf k q rd a b (h .ssp) (nextOf (h .pc)) m)
       unfolding doneOf poppedOf
       done-origin (access.Load w sign) q reads opened place = tt
-      done-origin (access.Store w) q reads opened place = (sumOf a off, place)
-      done-origin access.Push q reads opened place = (
-        refl,
-        record {
-          word = word;
-          rd = rd;
-          rs1 = rs1;
-          rs2 = rs2;
-          off = off;
-          arrives = arrives;
-          passes = passes;
-          reads = reads;
-          register = refl;
-          on = open-on (s .shadow) opened;
-          place = place;
-        },
-      )
-      done-origin access.Pop q reads opened place = popped-origin q reads (open-on (s .shadow) opened) place (eqb (readOf m q Double) a) refl
-      done-origin (access.Swap w aq rl) q reads opened place =
-          record { word = word; aq = aq; rl = rl; rd = rd; rs1 = rs1; rs2 = rs2; off = off; arrives = arrives; reads = reads }
+      done-origin (access.Store w) q reads opened place = given (access.Store w) q reads opened place
+      done-origin access.Push q reads opened place = (refl, given access.Push q reads opened place, refl)
+      done-origin access.Pop q reads opened place =
+          popped-origin q (given access.Pop q reads opened place) (eqb (readOf m q Double) a) refl
+      done-origin (access.Swap w aq rl) q reads opened place = (aq, rl, given (access.Swap w aq rl) q reads opened place)
 
       at-origin : (k : Access) (p : Place) → decodeOf word ≡ Memory k rd rs1 rs2 off → gateOf k (s .shadow) (s .permitted) ≡ gate.Open
           → placeOf (inForce h) (kindOf k) (widthOf k) (addressOf k (sumOf a off) (h .ssp)) map (length m) ≡ p
@@ -272,7 +231,7 @@ module _ (source : Source) (h : Hart) (m map : List ℕ) where
           → Origin (pick t (pick (isPad w (regOf (h .x) 7)) (Pad (nextOf (h .pc))) (Trap 18 2))
           (executeOf (decodeOf w) w (h .x) (h .pc) (h .ssp) s m map))
       go true p = chosen (isPad w (regOf (h .x) 7)) _ _ tt tt
-      go false p = execute-origin w e (rw p) (decodeOf w) refl
+      go false p = execute-origin w e p (decodeOf w) refl
 
   arrived-origin : (f : Fetched) → fetchedOf source (inForce h) (h .pc) m map ≡ f
       → Origin (arrivedOf f (h .x) (h .pc) (h .elp) (h .ssp) s m map)
