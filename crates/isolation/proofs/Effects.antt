@@ -1,6 +1,6 @@
 -- Two memories that are alike where an access can reach give one effect, along the cases of the step's definition.
 -- Assumes nothing.
-use mathlib.Core.Bool.{true, _&&_}
+use mathlib.Core.Bool.{Bool, true, _&&_}
 use mathlib.Core.List.{List}
 use mathlib.Core.Path.{_≡_, refl, ap}
 use Prim.Native.Nat.{ℕ}

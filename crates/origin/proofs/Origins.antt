@@ -167,7 +167,7 @@ module _ (source : Source) (h : Hart) (m map : List ℕ) where
       done-origin : (k : Access) (q : Physical) → decodeOf word ≡ Memory k rd rs1 rs2 off → gateOf k (s .shadow) (s .permitted) ≡ gate.Open
           → placeOf (inForce h) (kindOf k) (widthOf k) (addressOf k (sumOf a off) (h .ssp)) map (length m) ≡ At q
           → Origin (doneOf k q rd a b (h .ssp) (nextOf (h .pc)) m)
-      unfolding doneOf poppedOf
+      unfolding doneOf poppedOf given
       done-origin (access.Load w sign) q reads opened place = tt
       done-origin (access.Store w) q reads opened place = given (access.Store w) q reads opened place
       done-origin access.Push q reads opened place = (refl, given access.Push q reads opened place, refl)

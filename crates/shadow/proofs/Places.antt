@@ -1,13 +1,13 @@
 -- Two laws of places that the promise rests on: where a push may store, a pop-check may read; and an ordinary store stays beside every
 -- byte of a shadow page. Both go by what a place says of its access (place/proofs/Reach.antt).
 -- Assumes nothing.
-use mathlib.Core.Path.{_≡_, refl, sym, _∙_, ap, subst}
+use mathlib.Core.Path.{_≡_, refl, sym, _∙_, ap}
 use mathlib.Core.Bool.{true, false, true≢false}
 use mathlib.Core.List.{List}
 use mathlib.Core.Logic.{_⊎_, inl, inr}
 use Prim.Native.Nat.{ℕ, _+_, _*_, _/_, _%_, _≤_, _<_}
 use native.Mathlib.Omega.{arith}
-use borrow.Author.Tests.{le-leb}
+use borrow.Author.Tests.{le-leb, not-true}
 use Rattle.word.proofs.Bools.{both}
 use Rattle.word.proofs.Either.{either}
 use Rattle.isa.specs.Size.{sizeOf}
@@ -15,7 +15,6 @@ use Rattle.isa.specs.declared.Width.{Width}
 use Rattle.judge.proofs.Grants.{Held, held, granted}
 use Rattle.leaf.specs.Leaf.{leafOf, shadowPage}
 use Rattle.judge.specs.Judge.{judgeOf, accessedDirty}
-use Rattle.page.specs.Map.{lookupOf}
 use Rattle.page.specs.declared.Kind.the-variants as kind
 use Rattle.page.specs.declared.Kind.{Kind}
 use Rattle.page.specs.declared.Mode.the-variants.{User}
@@ -23,7 +22,6 @@ use Rattle.page.specs.declared.Mode.{Mode}
 use Rattle.page.specs.declared.Regime.{Regime}
 use Rattle.leaf.specs.declared.Leaf as leaf
 use Rattle.judge.specs.declared.Verdict.the-variants.{Granted}
-use Rattle.page.specs.declared.map.Found.the-variants.{Leaf}
 use Rattle.place.proofs.Reach.{Paged, place-aligned, place-paged, place-in-page, shadow-paged}
 use Rattle.address.specs.Align.{alignedOf}
 use Rattle.address.specs.Control.{modeOf, pagedOf, regimeOf}

@@ -12,13 +12,11 @@ use Rattle.word.proofs.Either.{either}
 use Rattle.word.specs.Sign.{signExtendOf}
 use Rattle.word.specs.Sum.{sumOf, differenceOf}
 use Rattle.isa.specs.declared.Width.the-variants.{Double}
-use Rattle.judge.proofs.Grants.{held}
-use Rattle.leaf.specs.Leaf.{leafOf}
 use Rattle.page.specs.declared.Kind.the-variants as kind
 use Rattle.page.specs.declared.Mode.the-variants.{User}
 use Rattle.page.specs.declared.Mode.{Mode}
 use Rattle.place.proofs.Reach.{place-aligned, shadow-paged}
-use Rattle.address.specs.Control.{modeOf, regimeOf}
+use Rattle.address.specs.Control.{modeOf}
 use Rattle.address.specs.Mask.{pmlenOf, maskOf, transformedOf}
 use Rattle.place.specs.Place.{base, frameOf, Within, canonicalOf, pageNumber, reachedOf, placeOf}
 use Rattle.place.specs.declared.Physical.{Physical}

@@ -7,9 +7,11 @@ use mathlib.Core.List.{List}
 use mathlib.Core.Path.{_≡_, refl, sym, subst, _∙_}
 use Prim.Native.Nat.{ℕ, _%_, _^_}
 use lib.Dec.{eqb}
+use lib.ListN.{length}
 use native.Mathlib.Omega.{arith}
 use borrow.Author.Tests.{eqb-true, eq-eqb, ne-eqb, not-true}
 use Rattle.word.proofs.Bools.{both}
+use Rattle.word.specs.Choice.{pick}
 use Rattle.word.specs.Field.{fieldsOf}
 use Rattle.word.specs.Immediate.{immU}
 use Rattle.word.specs.Sum.{sumOf}
@@ -20,10 +22,14 @@ use Rattle.isa.specs.declared.Instruction.the-variants.{Auipc, Memory}
 use Rattle.isa.specs.declared.CsrOperation.{CsrOperation}
 use Rattle.isa.specs.declared.Width.{Width}
 use Rattle.isa.specs.declared.Width.the-variants.{Double}
+use Rattle.page.specs.declared.Kind.the-variants as kind
 use Rattle.csr.specs.declared.Csr.the-variants.{Ssp}
 use Rattle.address.specs.Stack.{pushOf}
+use Rattle.place.specs.Place.{placeOf}
 use Rattle.place.specs.declared.Physical.{Physical}
+use Rattle.place.specs.declared.Place.the-variants.{At}
 use Rattle.transfer.specs.Access.{readOf, poppedOf, doneOf, atOf, passedOf, accessOf}
+use Rattle.transfer.specs.declared.access.Gate.the-variants as gate
 use Rattle.meaning.specs.Instruction.{nextOf, executeOf}
 use Rattle.meaning.specs.Plan.{fetchedOf, isPad, landedOf, arrivedOf, effectOf}
 use Rattle.effect.specs.Register.{regOf}
