@@ -3,13 +3,17 @@
 use crate::failure::Failure;
 use crate::options::{nearest, Spec};
 use crate::text::wrapped;
-use crate::{demonstrate, run_options, words};
+use crate::{demonstrate, frames, run_options, words};
 
 /// The commands with a line about each.
-pub const COMMANDS: [(&str, &str); 4] = [
+pub const COMMANDS: [(&str, &str); 5] = [
     (
         "run",
         "run a raw image on the proved hart and say where and why it stopped",
+    ),
+    (
+        "frames",
+        "say which frames of memory a user program can name by a page map, and which not",
     ),
     (
         "demo",
@@ -26,6 +30,7 @@ const OVERVIEW: &str = "\
 Sporhulma's desk: run RV64 programs on a proved hart with shadow stack, landing pads and masking.
 
   desk run IMAGE [options]
+  desk frames --map FILE [--memory SIZE] [--shadow-stack] [--json]
   desk demo [--svg FILE]
   desk disasm WORD...            desk disasm --image FILE [--at ADDRESS] [--words N]
   desk help [COMMAND]
@@ -59,6 +64,25 @@ Flags are the leaf's r w x u g; v a d are set unless !v !a !d is there. A line o
 0x40000 -> leaf 0x200010d7 gives the leaf's whole word.
 ";
 
+const FRAMES: &str = "\
+desk frames --map FILE [options]
+
+Says which frames of memory a user program under Sv39 can name by this page map, through which
+pages and how, and which it cannot. A frame is named by every entry that is valid (rule 5 of \"From
+address to byte\") and has its U bit. Up to and including its first trap, a user program neither
+depends on the bytes of frames that are not named nor changes them: docs/ISOLATION.md has the
+theorem.
+
+";
+
+const FRAMES_EXAMPLES: &str = "
+What an entry names and a program still cannot do is told as 'not as it stands', with what lacks:
+A (no access), D (no store, push or swap), mstatus.MXR (no load by X alone), senvcfg.SSE (no shadow
+access). W alone is a shadow page with --shadow-stack, and not valid without it.
+  desk frames --map program.map --memory 64K --shadow-stack
+desk run takes --frames and adds the same to its report, by the hart at the start of the run.
+";
+
 const DEMO: &str = "\
 desk demo [options]
 
@@ -84,6 +108,7 @@ pub fn text(command: Option<&str>) -> Result<String, Failure> {
             OVERVIEW.to_string() + &COMMANDS.iter().map(line).collect::<String>() + STATUSES
         }
         Some("run") => RUN.to_string() + &table(run_options::OPTIONS) + RUN_EXAMPLES + STATUSES,
+        Some("frames") => FRAMES.to_string() + &table(frames::OPTIONS) + FRAMES_EXAMPLES,
         Some("demo") => DEMO.to_string() + &table(demonstrate::OPTIONS),
         Some("disasm") => DISASM.to_string() + &table(words::OPTIONS),
         Some(other) => return Err(unknown(other)),
@@ -94,7 +119,7 @@ pub fn text(command: Option<&str>) -> Result<String, Failure> {
 pub fn unknown(command: &str) -> Failure {
     let right = match nearest(command, COMMANDS.iter().map(|command| command.0)) {
         Some(near) => format!("did you mean {near}?"),
-        None => "the commands are run, demo, disasm and help".into(),
+        None => "the commands are run, frames, demo, disasm and help".into(),
     };
     Failure::at(command, format!("the desk has no such command; {right}"))
 }

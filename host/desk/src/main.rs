@@ -6,6 +6,7 @@ mod drive;
 mod dump;
 mod explain;
 mod failure;
+mod frames;
 mod help;
 mod image;
 mod json;
@@ -69,7 +70,7 @@ fn arguments() -> Result<Vec<String>, Failure> {
 fn command(arguments: &[String], out: &mut dyn Write) -> Result<u8, Failure> {
     let Some((name, rest)) = arguments.split_first() else {
         return Err(Failure::Input(
-            "no command is given; write desk run, demo, disasm or help".into(),
+            "no command is given; write desk run, frames, demo, disasm or help".into(),
         ));
     };
     let asks_help = |argument: &String| ["--help", "-h"].contains(&argument.as_str());
@@ -81,6 +82,7 @@ fn command(arguments: &[String], out: &mut dyn Write) -> Result<u8, Failure> {
     let parse = |specs| options::parse(name, specs, rest);
     match name.as_str() {
         "run" => run::run(&parse(run_options::OPTIONS)?, out),
+        "frames" => frames::run(&parse(frames::OPTIONS)?, out),
         "demo" => demonstrate::run(&parse(demonstrate::OPTIONS)?, out),
         "disasm" => words::run(&parse(words::OPTIONS)?, out),
         "help" => {

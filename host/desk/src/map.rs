@@ -16,9 +16,10 @@ const V: u64 = 1 << 0;
 const R: u64 = 1 << 1;
 const W: u64 = 1 << 2;
 const X: u64 = 1 << 3;
-const A: u64 = 1 << 6;
-const D: u64 = 1 << 7;
-const PAGE: u64 = 4096;
+pub const A: u64 = 1 << 6;
+pub const D: u64 = 1 << 7;
+/// Bytes of a page and of a frame.
+pub const PAGE: u64 = 4096;
 
 /// A line of the map.
 #[derive(Clone, Copy, Debug, PartialEq)]
@@ -59,12 +60,14 @@ impl Entry {
         format!("{:#x} -> {:#x} {flags}", self.address(), self.frame())
     }
 
+    /// The entry, and where the map's file has it.
+    pub fn placed(&self) -> String {
+        format!("{} (line {} of the map)", self.text(), self.line)
+    }
+
     /// The entry as a row of a report.
     pub fn row(&self) -> (&'static str, String) {
-        (
-            "entry",
-            format!("{} (line {} of the map)", self.text(), self.line),
-        )
+        ("entry", self.placed())
     }
 }
 

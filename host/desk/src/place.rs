@@ -31,7 +31,7 @@ impl Kind {
         }
     }
 
-    fn shadow(self) -> bool {
+    pub fn shadow(self) -> bool {
         matches!(self, Kind::Push | Kind::Pop | Kind::Swap)
     }
 

@@ -3,6 +3,7 @@
 use crate::drive::{End, Stop};
 use crate::dump;
 use crate::explain::{cause_name, Rows, Trap};
+use crate::frames::{Scope, Table};
 use crate::json::Json;
 use crate::map::PageMap;
 use crate::names::mode_name;
@@ -89,6 +90,10 @@ impl Report {
         ];
         members.extend(hart_json(&end.after.hart));
         members.push(("dump", Json::List(dumps.collect())));
+        if job.frames {
+            let scope = Scope::of(&job.state.hart, end.followed);
+            members.push(("frames", frames(job).json_in_run(&scope)));
+        }
         Json::object(members)
     }
 }
@@ -166,9 +171,18 @@ fn dumped(end: &End, address: u64, length: u64) -> Json {
     Json::object([("address", Json::hex(address)), ("bytes", Json::text(hex))])
 }
 
+/// What the map names, by the hart at the start of the run.
+fn frames(job: &Job) -> Table {
+    Table::new(&job.state.hart, job.state.mem.len() as u64, &job.map)
+}
+
 /// The tables that were asked for.
 pub fn tables(end: &End, job: &Job) -> String {
     let mut text = String::new();
+    if job.frames {
+        let scope = Scope::of(&job.state.hart, end.followed);
+        text += &format!("\n{}", frames(job).text(&scope));
+    }
     if job.registers {
         text += "\n";
         text += &dump::registers(&end.after);

@@ -29,6 +29,8 @@ pub struct Job {
     pub registers: bool,
     pub dumps: Vec<(u64, u64)>,
     pub save: Option<Output>,
+    /// Whether the frames that the map names are to be told.
+    pub frames: bool,
     pub json: bool,
 }
 
@@ -38,10 +40,12 @@ impl Job {
             hart: hart(given)?,
             mem: memory(given)?,
         };
-        let map = match given.one("--map") {
-            Some(path) => PageMap::parse(path, &image::text(path)?)?,
-            None => PageMap::default(),
-        };
+        let frames = given.has("--frames");
+        if frames && !given.has("--map") {
+            let wrong = "it tells what the map's entries name, and no map is given; add --map FILE";
+            return Err(Failure::at("--frames", wrong));
+        }
+        let map = map(given)?;
         let limits = Limits {
             steps: given.parsed("--steps", number)?.unwrap_or(1_000_000),
             follow: follow(given)?,
@@ -67,8 +71,26 @@ impl Job {
             map,
             limits,
             dumps,
+            frames,
             json,
         })
+    }
+}
+
+/// The page map, which may be left out.
+pub fn map(given: &Given) -> Result<PageMap, Failure> {
+    match given.one("--map") {
+        Some(path) => PageMap::parse(path, &image::text(path)?),
+        None => Ok(PageMap::default()),
+    }
+}
+
+/// How many bytes memory has.
+pub fn length(given: &Given) -> Result<u64, Failure> {
+    let length = given.parsed("--memory", size)?.unwrap_or(MEMORY);
+    match refusal::memory(length) {
+        Some(wrong) => Err(Failure::at("--memory", wrong)),
+        None => Ok(length),
     }
 }
 
@@ -89,10 +111,7 @@ fn memory(given: &Given) -> Result<Vec<u8>, Failure> {
             ))
         }
     };
-    let length = given.parsed("--memory", size)?.unwrap_or(MEMORY);
-    if let Some(wrong) = refusal::memory(length) {
-        return Err(Failure::at("--memory", wrong));
-    }
+    let length = length(given)?;
     let mut mem = image::image(path)?;
     if mem.len() as u64 > length {
         let (bytes, enough) = (mem.len(), mem.len().next_multiple_of(4096));

@@ -12,18 +12,21 @@ pub fn wrapped(
 ) -> String {
     let mut text = head.to_string();
     let mut column = head.chars().count();
+    // Whether something stands in the line from which the next word is to be set apart.
+    let mut begun = column > indent;
     for word in words {
         let word = word.as_ref();
         let width = word.chars().count();
-        if column + 1 + width > COLUMNS && column > indent {
+        if column + 1 + width > COLUMNS && begun {
             text += &format!("\n{:indent$}", "");
             column = indent;
-        } else if column > indent {
+        } else if begun {
             text.push(' ');
             column += 1;
         }
         text += word;
         column += width;
+        begun = true;
     }
     text + "\n"
 }
@@ -51,5 +54,16 @@ mod tests {
             .skip(1)
             .all(|line| line.starts_with("      word")));
         assert_eq!(text.split_whitespace().count(), 41);
+    }
+
+    /// Also behind words that are no longer than the lines below are set in.
+    #[test]
+    fn words_are_set_apart() {
+        assert_eq!(wrapped("", "a b c".split(' '), 4), "a b c\n");
+        assert_eq!(wrapped("  head: ", "a b".split(' '), 8), "  head: a b\n");
+        assert_eq!(
+            wrapped("a long head", "a b".split(' '), 4),
+            "a long head a b\n"
+        );
     }
 }

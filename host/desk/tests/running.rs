@@ -260,10 +260,12 @@ fn help_is_there_and_fits_a_page() {
     for command in [
         "help",
         "help run",
+        "help frames",
         "help demo",
         "help disasm",
         "--help",
         "run -h",
+        "frames --help",
         "disasm --help",
     ] {
         let outcome = desk.run(command);

@@ -21,10 +21,10 @@ fn refused(test: &str, prepare: impl Fn(&Desk), cases: &[(&str, &str)]) {
 #[rustfmt::skip]
 fn commands() {
     refused("commands", |_| (), &[
-        ("", "no command is given; write desk run, demo, disasm or help"),
+        ("", "no command is given; write desk run, frames, demo, disasm or help"),
         ("runn ok.bin", "runn: the desk has no such command; did you mean run?"),
-        ("simulate", "simulate: the desk has no such command; the commands are run, demo, disasm and help"),
-        ("help rnu", "rnu: the desk has no such command; the commands are run, demo, disasm and help"),
+        ("simulate", "simulate: the desk has no such command; the commands are run, frames, demo, disasm and help"),
+        ("help rnu", "rnu: the desk has no such command; the commands are run, frames, demo, disasm and help"),
         ("help run demo", "help: 'demo' is not needed; name one command"),
         ("demo now", "demo: 'now' is not needed; write desk demo [--svg FILE]"),
         ("demo --svg", "--svg: its FILE is missing; write for instance --svg torque.svg"),
@@ -201,6 +201,35 @@ fn maps() {
         ("run ok.bin --map binary.map", "binary.map: it is no text (not UTF-8); give a text file"),
         ("run ok.bin --map twice.map", "twice.map:3: page 0x2000 stands already in line 1; give each page once"),
         ("run ok.bin --map many.map", "many.map:65: this is page 65; a map has at most 64"),
+    ]);
+}
+
+#[test]
+#[rustfmt::skip]
+fn frames() {
+    let prepare = |desk: &Desk| {
+        desk.file("wrong.map", "0x10000 -> 0x80001000 rw u\n0x11000 -> 0x80001000 rwq\n");
+        desk.file("binary.map", [0xff, 0xfe]);
+    };
+    refused("frames", prepare, &[
+        ("frames", "frames: the map is missing; write desk frames --map FILE [options]"),
+        ("frames --memory 64K", "frames: the map is missing; write desk frames --map FILE [options]"),
+        ("frames user.map", "frames: 'user.map' is not needed; if it is the map, write desk frames --map user.map"),
+        ("frames ok.bin --map user.map", "frames: 'ok.bin' is not needed; write desk frames --map FILE [options]"),
+        ("frames --map", "--map: its FILE is missing; write for instance --map pages.map"),
+        ("frames --map none.map", "none.map: there is no such file; check the path"),
+        ("frames --map binary.map", "binary.map: it is no text (not UTF-8); give a text file"),
+        ("frames --map wrong.map", "wrong.map:2: 'rwq' is no flag; use letters of v r w x u g a d, !v !a !d, or shadow"),
+        ("frames --map user.map --map user.map", "--map: it is given twice; give it once"),
+        ("frames --map user.map --memory 5000", "--memory: 5000 is not a multiple of 4096; try 4096 or 8192"),
+        ("frames --map user.map --memory 2M", "--memory: 2097152 is over 1048576 (1M), the most that the hart takes"),
+        ("frames --map user.map --shadow-stak", "--shadow-stak: 'desk frames' has no such option; did you mean --shadow-stack?"),
+        ("frames --map user.map --json=1", "--json: it takes no value; write it alone"),
+        ("frames --map user.map --mode U", "--mode: 'desk frames' has no such option; 'desk help frames' lists them"),
+        ("frame --map user.map", "frame: the desk has no such command; did you mean frames?"),
+        ("run ok.bin --frames", "--frames: it tells what the map's entries name, and no map is given; add --map FILE"),
+        ("run ok.bin --frames --sv39 --mode U --json", "--frames: it tells what the map's entries name, and no map is given; add --map FILE"),
+        ("run ok.bin --map user.map --frames=1", "--frames: it takes no value; write it alone"),
     ]);
 }
 

@@ -10,6 +10,8 @@ mod fault;
 mod flow;
 mod illegal;
 
+pub use flow::shadow_stack_on;
+
 use crate::json::Json;
 use crate::map::PageMap;
 use crate::names::{mode_name, M};

@@ -2,6 +2,9 @@
 
 #![allow(dead_code)] // each test file uses its own part
 
+pub mod json;
+
+use json::{Reader, Value};
 use std::fs;
 use std::path::PathBuf;
 use std::process::{Command, Stdio};
@@ -83,6 +86,14 @@ impl Desk {
             out: String::from_utf8(output.stdout).unwrap(),
             err: String::from_utf8(output.stderr).unwrap(),
         }
+    }
+
+    /// The object that arguments with `--json` print where all goes as asked.
+    pub fn object(&self, arguments: &str) -> Value {
+        let outcome = self.run(arguments);
+        let ended = (outcome.status, outcome.err.as_str());
+        assert_eq!(ended, (0, ""), "{arguments}");
+        Reader::whole(&outcome.out)
     }
 }
 
