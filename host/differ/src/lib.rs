@@ -11,6 +11,7 @@ pub mod instruction;
 pub mod lifted;
 pub mod maker;
 pub mod mix;
+pub mod named;
 pub mod options;
 pub mod pair;
 pub mod program;
