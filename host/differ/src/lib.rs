@@ -7,6 +7,7 @@
 pub mod case;
 pub mod csr;
 pub mod decoder;
+pub mod hidden;
 pub mod instruction;
 pub mod lifted;
 pub mod maker;
@@ -24,4 +25,5 @@ pub mod soak;
 pub mod state;
 pub mod steps;
 pub mod text;
+pub mod visit;
 pub mod world;
