@@ -74,7 +74,7 @@ struct Scene {
 impl Scene {
     /// Makes memory, hart and map, all but the call and the program.
     fn new(random: &mut Random, case: &mut Case) -> Scene {
-        let frames = 6 + random.below(3);
+        let frames = 6 + random.below(2);
         let scene = Scene {
             world: World::random(random, frames),
             frames,
@@ -235,29 +235,25 @@ fn single(random: &mut Random, scene: &Scene, case: &mut Case) {
 /// Makes the other case of the first: another byte wherever a user cannot reach. Half of the time the first memory has
 /// there, all over, what a visitor's pop-check asks for.
 fn part(random: &mut Random, made: &mut Made) {
-    let guessed = random.chance(50);
-    let (mut mask, stride) = (random.word(), random.word());
     let [case, other] = &mut made.cases;
     other.hart = case.hart;
     other.call = case.call;
     other.map.clone_from(&case.map);
     other.mem.clone_from(&case.mem);
     let guess = case.hart.x[GUESS as usize].to_le_bytes();
-    let frames = case
-        .mem
-        .chunks_mut(PAGE as usize)
-        .zip(other.mem.chunks_mut(PAGE as usize));
-    for ((one, other), _) in frames.zip(&made.named).filter(|(_, named)| !**named) {
-        for (one, other) in one.chunks_mut(8).zip(other.chunks_mut(8)) {
-            if guessed {
-                one.copy_from_slice(&guess[..one.len()]);
-            }
-            // No byte of this is 0, so that no byte stays.
-            let change = (mask | 0x0101_0101_0101_0101).to_le_bytes();
-            for ((one, other), change) in one.iter().zip(other).zip(change) {
-                *other = one ^ change;
-            }
-            mask = mask.wrapping_add(stride);
+    let guessed = random.chance(50);
+    let frames = |mem| <[u8]>::chunks_mut(mem, PAGE as usize);
+    let both = frames(&mut case.mem).zip(frames(&mut other.mem));
+    for ((one, other), _) in both.zip(&made.named).filter(|(_, named)| !**named) {
+        if guessed {
+            let eights = one.chunks_exact_mut(8);
+            eights.for_each(|eight| eight.copy_from_slice(&guess));
+        }
+        let [first, stride, ..] = random.word().to_le_bytes();
+        for (at, (one, other)) in one.iter().zip(other).enumerate() {
+            // Never 0, so that no byte stays.
+            let change = first.wrapping_add(stride.wrapping_mul(at as u8)) | 1;
+            *other = one ^ change;
         }
     }
 }
