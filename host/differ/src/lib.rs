@@ -3,24 +3,32 @@
 //! A case is a whole input: hart, memory, page map and call. `steps` and `runs` make cases from a seed and a number,
 //! `pair` gives a case to both simulators and compares everything they leave, `soak` does that many times and counts
 //! the mix, `text` writes a case as text and reads it back, and `decoder` compares the verdict on all 2^32 words.
+//! For request A13 `hidden` makes pairs of memories that differ where a user's program may not reach, `twins` looks whether
+//! anything of it shows, and `seen` counts what the pairs were.
 
 pub mod case;
 pub mod csr;
 pub mod decoder;
+pub mod hidden;
 pub mod instruction;
 pub mod lifted;
 pub mod maker;
 pub mod mix;
+pub mod named;
 pub mod options;
 pub mod pair;
 pub mod program;
 pub mod random;
+pub mod reach;
 pub mod refuse;
 pub mod runs;
+pub mod seen;
 pub mod shadow;
 pub mod simulator;
 pub mod soak;
 pub mod state;
 pub mod steps;
 pub mod text;
+pub mod twins;
+pub mod visit;
 pub mod world;

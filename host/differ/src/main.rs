@@ -3,9 +3,9 @@
 use differ::case::Case;
 use differ::decoder;
 use differ::mix::FAMILIES;
-use differ::options::{parse, Command, HELP};
+use differ::options::{parse, Amounts, Command, HELP};
 use differ::pair::Pair;
-use differ::simulator::{Proved, Second};
+use differ::simulator::{Proved, Second, Simulator};
 use differ::soak::{Failure, Name, Soak};
 use differ::text;
 use std::io::{IsTerminal, Write};
@@ -22,12 +22,16 @@ macro_rules! say {
 }
 
 const TEST_SEED: u64 = 1;
-const TEST_STEPS: u64 = 1_000_000;
-const TEST_RUNS: u64 = 20_000;
+const TEST: Amounts = Amounts {
+    steps: Some(1_000_000),
+    runs: Some(20_000),
+    pairs: Some(100_000),
+};
 
 /// Cases between two looks at the clock.
 const STEPS_AT_ONCE: u64 = 5_000;
 const RUNS_AT_ONCE: u64 = 100;
+const PAIRS_AT_ONCE: u64 = 500;
 
 fn main() -> ExitCode {
     let args: Vec<String> = std::env::args().skip(1).collect();
@@ -41,8 +45,8 @@ fn main() -> ExitCode {
             ExitCode::SUCCESS
         }
         Command::Test => test(),
-        Command::Soak { steps, runs, seed } => {
-            let soak = soak(seed, steps, runs);
+        Command::Soak { amounts, seed } => {
+            let soak = soak(seed, amounts);
             status(soak.failures.is_empty())
         }
         Command::AgainFile(file) => again_file(&file),
@@ -96,8 +100,9 @@ impl Progress {
 }
 
 fn test() -> ExitCode {
-    let soak = soak(TEST_SEED, TEST_STEPS, TEST_RUNS);
-    let complaints = soak.mix.complaints(true);
+    let soak = soak(TEST_SEED, TEST);
+    let mut complaints = soak.mix.complaints(true);
+    complaints.extend(soak.seen.complaints());
     // A test that ended early because of differences has seen little: only these are said then.
     if !complaints.is_empty() && !soak.done() {
         say!("differ: FAILED: {}", complaints.join("; "));
@@ -105,36 +110,78 @@ fn test() -> ExitCode {
     status(complaints.is_empty() && soak.failures.is_empty())
 }
 
-/// Steps and runs by turns; 0 means until stopped. Prints the mix and the verdict.
-fn soak(seed: u64, steps: u64, runs: u64) -> Soak<Proved, Second> {
+/// The cases of one kind: how many are made, how many are wanted, and how long they took.
+struct Part {
+    made: u64,
+    wanted: Option<u64>,
+    took: Duration,
+}
+
+impl Part {
+    fn new(wanted: Option<u64>) -> Part {
+        Part {
+            made: 0,
+            wanted,
+            took: Duration::ZERO,
+        }
+    }
+
+    fn more(&self) -> bool {
+        self.wanted.is_none_or(|wanted| self.made < wanted)
+    }
+
+    /// The next cases, at most `most`, unless the soak is done.
+    fn go_on<L: Simulator, R: Simulator>(
+        &mut self,
+        most: u64,
+        soak: &mut Soak<L, R>,
+        case: fn(&mut Soak<L, R>, u64),
+    ) {
+        let start = Instant::now();
+        let end = self.made + most;
+        while !soak.done() && self.made < end && self.more() {
+            case(soak, self.made);
+            self.made += 1;
+        }
+        self.took += start.elapsed();
+    }
+}
+
+/// Steps, runs and pairs by turns. Prints the mix and the verdict.
+fn soak(seed: u64, amounts: Amounts) -> Soak<Proved, Second> {
     let mut soak = Soak::new(Proved, Second, seed);
     let mut progress = Progress::new();
-    let (mut step, mut run, mut printed) = (0, 0, 0);
-    let more = |number, limit| limit == 0 || number < limit;
-    while !soak.done() && (more(step, steps) || more(run, runs)) {
-        let end = step + STEPS_AT_ONCE;
-        while !soak.done() && step < end && more(step, steps) {
-            soak.step(step);
-            step += 1;
-        }
-        let end = run + RUNS_AT_ONCE;
-        while !soak.done() && run < end && more(run, runs) {
-            soak.run(run);
-            run += 1;
-        }
+    let [mut steps, mut runs, mut pairs] =
+        [amounts.steps, amounts.runs, amounts.pairs].map(Part::new);
+    let mut printed = 0;
+    while !soak.done() && (steps.more() || runs.more() || pairs.more()) {
+        steps.go_on(STEPS_AT_ONCE, &mut soak, Soak::step);
+        runs.go_on(RUNS_AT_ONCE, &mut soak, Soak::run);
+        pairs.go_on(PAIRS_AT_ONCE, &mut soak, Soak::pair);
         for failure in &soak.failures[printed..] {
             progress.clear();
             print_failure(failure);
         }
         printed = soak.failures.len();
-        progress.show(|| format!("{step} steps, {run} runs, {printed} differences"));
+        progress.show(|| {
+            let (steps, runs, pairs) = (steps.made, runs.made, pairs.made);
+            format!("{steps} steps, {runs} runs, {pairs} pairs, {printed} differences")
+        });
     }
     progress.clear();
-    say!("{}", soak.mix.text().trim_end());
+    if steps.made + runs.made > 0 {
+        say!("{}", soak.mix.text().trim_end());
+    }
+    if pairs.made > 0 {
+        say!("{}", soak.seen.text().trim_end());
+    }
     say!(
-        "differ: {} differences in {step} steps and {run} runs of seed {seed}, {:.1} s",
-        soak.failures.len(),
-        progress.start.elapsed().as_secs_f64()
+        "differ: {printed} differences in {} steps, {} runs and {} pairs of seed {seed}, {:.1} s ({:.1} s the pairs)",
+        steps.made,
+        runs.made,
+        pairs.made,
+        progress.start.elapsed().as_secs_f64(),
+        pairs.took.as_secs_f64()
     );
     soak
 }
@@ -151,9 +198,14 @@ fn print_failure(failure: &Failure) {
     }
     say!("  again: {}", failure.again());
     match failure.save(&folder()) {
-        Ok(path) => {
-            let path = path.canonicalize().unwrap_or(path);
-            say!("  the call alone: tools/differ again {}", path.display());
+        Ok(paths) => {
+            for path in paths {
+                let path = path.canonicalize().unwrap_or(path);
+                say!("  the call alone: tools/differ again {}", path.display());
+            }
+            if failure.other.is_some() {
+                say!("  (these compare the simulators on one memory each; the two memories, only the line 'again')");
+            }
         }
         Err(error) => say!(
             "  its case could not be written to {}: {error}",
@@ -167,6 +219,7 @@ fn again(seed: u64, name: Name) -> ExitCode {
     match name {
         Name::Step(number) => soak.step(number),
         Name::Run(number) => soak.run(number),
+        Name::Pair(number) => soak.pair(number),
     }
     for failure in &soak.failures {
         print_failure(failure);

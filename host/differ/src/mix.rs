@@ -248,7 +248,7 @@ fn cause_name(cause: Cause) -> String {
 }
 
 /// A list over lines with a title before the first.
-fn list(text: &mut String, title: &str, items: Vec<String>, a_line: usize) {
+pub fn list(text: &mut String, title: &str, items: Vec<String>, a_line: usize) {
     for (at, row) in items.chunks(a_line).enumerate() {
         let title = if at == 0 { title } else { "" };
         let _ = writeln!(text, "{title:<10} {}", row.join(", "));

@@ -6,29 +6,44 @@ use crate::text::number;
 pub const HELP: &str = "\
 differ: the proved simulator (left) against the second, independent one (right)
 
-  differ test                 1,000,000 steps and 20,000 runs of a fixed seed; this is what ./test runs
-  differ soak [--steps N] [--runs N] [--seed S]
-                              any number (default 10,000,000 and 200,000, seed 1);
+  differ test                 1,000,000 steps, 20,000 runs and 100,000 pairs of a fixed seed; this is what ./test runs
+  differ soak [--steps N] [--runs N] [--pairs N] [--seed S]
+                              any number (default 10,000,000, 200,000 and 1,000,000, seed 1);
                               0 means until stopped, and then no summary is printed
+  differ pairs [--count N] [--seed S]
+                              pairs alone (default 100,000, seed 1)
   differ again FILE           one case from the file that a failure wrote
   differ again --seed S --case N
-                              step N of a seed; --run N in place of --case N: run N of a seed
+                              step N of a seed; --run N or --pair N in place of --case N: run N, pair N of a seed
   differ decoder              the decoder's verdict on all 2^32 words, on all cores
   differ --help               this text
 
+A pair (request A13) is a user's hart and map with two memories that differ in every byte of each frame that no valid
+entry with U names: on each simulator the calls must answer alike with both, up to and including the first trap, and
+leave the named frames alike and the other ones as they were. Beside that the two simulators must agree on each memory.
+
 A difference is printed with the words and bytes that differ and the command that runs its case again; its case is
 written to target/differ/. After 5 differences the command ends.
-Exit status: 0 no difference, 1 a difference (for test also: a kind of case that was not seen), 2 wrong usage.
+Exit status: 0 no difference, 1 a difference (for test also: a kind of case that was not seen, or under 60 % of the pairs
+of three completed steps and more with a load and a store that reached memory), 2 wrong usage.
 ";
 
 #[derive(Debug, PartialEq, Eq)]
 pub enum Command {
     Help,
     Test,
-    Soak { steps: u64, runs: u64, seed: u64 },
+    Soak { amounts: Amounts, seed: u64 },
     AgainFile(String),
     Again { seed: u64, name: Name },
     Decoder,
+}
+
+/// How many of each kind of case; None means until stopped.
+#[derive(Clone, Copy, Debug, PartialEq, Eq)]
+pub struct Amounts {
+    pub steps: Option<u64>,
+    pub runs: Option<u64>,
+    pub pairs: Option<u64>,
 }
 
 /// Reads the arguments; an error is one line that says what would be right.
@@ -39,14 +54,15 @@ pub fn parse(args: &[String]) -> Result<Command, String> {
         ["test"] => Ok(Command::Test),
         ["decoder"] => Ok(Command::Decoder),
         ["soak", ref options @ ..] => soak(options),
+        ["pairs", ref options @ ..] => pairs(options),
         ["again", file] if !file.starts_with('-') => Ok(Command::AgainFile(file.to_string())),
         ["again", ref options @ ..] => again(options),
-        [] => Err("no command: right is test, soak, again, decoder or --help".to_string()),
+        [] => Err("no command: right is test, soak, pairs, again, decoder or --help".to_string()),
         [command @ ("test" | "decoder"), extra, ..] => Err(format!(
             "'{command}' takes no argument, and '{extra}' is one"
         )),
         [command, ..] => Err(format!(
-            "'{command}' is no command: right is test, soak, again, decoder or --help"
+            "'{command}' is no command: right is test, soak, pairs, again, decoder or --help"
         )),
     }
 }
@@ -73,26 +89,45 @@ fn values<const N: usize>(options: &[&str], names: [&str; N]) -> Result<[Option<
     Ok(values)
 }
 
+/// An amount as it is given: 0 means until stopped.
+fn amount(given: Option<u64>, otherwise: u64) -> Option<u64> {
+    Some(given.unwrap_or(otherwise)).filter(|amount| *amount != 0)
+}
+
 fn soak(options: &[&str]) -> Result<Command, String> {
-    let [steps, runs, seed] = values(options, ["--steps", "--runs", "--seed"])?;
+    let [steps, runs, pairs, seed] = values(options, ["--steps", "--runs", "--pairs", "--seed"])?;
     Ok(Command::Soak {
-        steps: steps.unwrap_or(10_000_000),
-        runs: runs.unwrap_or(200_000),
+        amounts: Amounts {
+            steps: amount(steps, 10_000_000),
+            runs: amount(runs, 200_000),
+            pairs: amount(pairs, 1_000_000),
+        },
+        seed: seed.unwrap_or(1),
+    })
+}
+
+fn pairs(options: &[&str]) -> Result<Command, String> {
+    let [count, seed] = values(options, ["--count", "--seed"])?;
+    Ok(Command::Soak {
+        amounts: Amounts {
+            steps: Some(0),
+            runs: Some(0),
+            pairs: amount(count, 100_000),
+        },
         seed: seed.unwrap_or(1),
     })
 }
 
 fn again(options: &[&str]) -> Result<Command, String> {
-    let right = "right is 'again FILE', 'again --seed S --case N' or 'again --seed S --run N'";
-    let name = match values(options, ["--seed", "--case", "--run"])? {
-        [Some(seed), Some(step), None] => (seed, Name::Step(step)),
-        [Some(seed), None, Some(run)] => (seed, Name::Run(run)),
+    let right =
+        "right is 'again FILE' or 'again --seed S' with '--case N', '--run N' or '--pair N'";
+    let (seed, name) = match values(options, ["--seed", "--case", "--run", "--pair"])? {
+        [Some(seed), Some(step), None, None] => (seed, Name::Step(step)),
+        [Some(seed), None, Some(run), None] => (seed, Name::Run(run)),
+        [Some(seed), None, None, Some(pair)] => (seed, Name::Pair(pair)),
         _ => return Err(format!("'again' does not know which case: {right}")),
     };
-    Ok(Command::Again {
-        seed: name.0,
-        name: name.1,
-    })
+    Ok(Command::Again { seed, name })
 }
 
 #[cfg(test)]
@@ -115,9 +150,23 @@ mod tests {
         assert_eq!(
             parsed("soak --seed 0x10 --steps 0"),
             Ok(Command::Soak {
-                steps: 0,
-                runs: 200_000,
+                amounts: Amounts {
+                    steps: None,
+                    runs: Some(200_000),
+                    pairs: Some(1_000_000)
+                },
                 seed: 16
+            })
+        );
+        assert_eq!(
+            parsed("pairs --count 7"),
+            Ok(Command::Soak {
+                amounts: Amounts {
+                    steps: Some(0),
+                    runs: Some(0),
+                    pairs: Some(7)
+                },
+                seed: 1
             })
         );
         assert_eq!(
@@ -129,6 +178,13 @@ mod tests {
             Ok(Command::Again {
                 seed: 3,
                 name: Name::Run(9)
+            })
+        );
+        assert_eq!(
+            parsed("again --seed 3 --pair 9"),
+            Ok(Command::Again {
+                seed: 3,
+                name: Name::Pair(9)
             })
         );
         assert_eq!(
@@ -151,10 +207,15 @@ mod tests {
             ("soak --steps -1", "--steps: '-1' is no number"),
             ("soak --seed 1 --seed 2", "--seed is given twice"),
             ("soak --cases 5", "'--cases' is no option here"),
+            ("pairs --steps 5", "'--steps' is no option here"),
             ("again", "'again' does not know which case"),
             ("again --seed 1", "'again' does not know which case"),
             (
                 "again --seed 1 --case 2 --run 3",
+                "'again' does not know which case",
+            ),
+            (
+                "again --seed 1 --run 2 --pair 3",
                 "'again' does not know which case",
             ),
             ("again a b", "'a' is no option here"),

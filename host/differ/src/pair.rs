@@ -35,7 +35,7 @@ impl Side {
         self.answer = catch_unwind(AssertUnwindSafe(call)).ok();
     }
 
-    fn answer_text(&self) -> String {
+    pub fn answer_text(&self) -> String {
         match self.answer {
             None => "panicked".to_string(),
             Some(answer) if answer.refusal != 0 => format!("refusal {}", answer.refusal),
@@ -74,15 +74,7 @@ impl Pair {
             format!("left:  {}", left.answer_text()),
             format!("right: {}", right.answer_text()),
         ];
-        let names = (0..32)
-            .map(|n| format!("x{n}"))
-            .chain(REST.iter().map(|name| name.to_string()));
-        let words = |hart: &Hart| hart.x.into_iter().chain(hart.rest).collect::<Vec<u64>>();
-        for ((name, one), other) in names.zip(words(&left.hart)).zip(words(&right.hart)) {
-            if one != other {
-                lines.push(format!("{name}: left {one:#x}, right {other:#x}"));
-            }
-        }
+        lines.extend(words_that_differ(&left.hart, &right.hart));
         for (at, (one, other)) in left.mem.iter().zip(&right.mem).enumerate() {
             if one != other {
                 let address = BASE + at as u64;
@@ -93,6 +85,18 @@ impl Pair {
         }
         lines
     }
+}
+
+/// The words of two harts that differ, a line each.
+pub fn words_that_differ(left: &Hart, right: &Hart) -> Vec<String> {
+    let names = (0..32)
+        .map(|n| format!("x{n}"))
+        .chain(REST.iter().map(|name| name.to_string()));
+    let words = |hart: &Hart| hart.x.into_iter().chain(hart.rest).collect::<Vec<u64>>();
+    let all = names.zip(words(left)).zip(words(right));
+    all.filter(|((_, one), other)| one != other)
+        .map(|((name, one), other)| format!("{name}: left {one:#x}, right {other:#x}"))
+        .collect()
 }
 
 #[cfg(test)]

@@ -94,7 +94,7 @@ fn accepted(random: &mut Random, case: &mut Case) -> u64 {
 }
 
 /// What would end most programs at once is made seldom: a shadow stack without Sv39, a pad expected at the start.
-fn tame(random: &mut Random, case: &mut Case) {
+pub fn tame(random: &mut Random, case: &mut Case) {
     if random.chance(85) {
         case.hart.rest[ELP] = 0;
         case.hart.rest[SATP] = SV39;
@@ -117,7 +117,7 @@ fn budget(random: &mut Random) -> u64 {
 }
 
 /// The stack and the table into the data page, ssp into the shadow page, each with upper bits that masking changes.
-fn point(maker: &mut Maker) {
+pub fn point(maker: &mut Maker) {
     let sv39 = maker.view.data_sv39;
     let table = maker.world.at(Role::Data, sv39, PAGE / 2);
     let stack = maker.world.at(Role::Data, sv39, PAGE - 64);
@@ -131,7 +131,7 @@ fn point(maker: &mut Maker) {
     maker.case.hart.rest[SSP] = maker.dirty(pointer, masked);
 }
 
-fn write(case: &mut Case, place: u64, words: &[u32]) {
+pub fn write(case: &mut Case, place: u64, words: &[u32]) {
     for (at, word) in words.iter().enumerate() {
         case.poke(place + 4 * at as u64, &word.to_le_bytes());
     }

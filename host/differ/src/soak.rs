@@ -3,18 +3,21 @@
 use crate::case::Case;
 use crate::mix::Mix;
 use crate::pair::Pair;
+use crate::seen::Seen;
 use crate::simulator::Simulator;
+use crate::twins::Twins;
 use crate::{runs, steps, text};
 use std::path::{Path, PathBuf};
 
 /// After so many failures a soak ends.
 pub const MOST_FAILURES: usize = 5;
 
-/// Which case: step or run `number` of a seed.
+/// Which case: step, run or pair `number` of a seed.
 #[derive(Clone, Copy, PartialEq, Eq, Debug)]
 pub enum Name {
     Step(u64),
     Run(u64),
+    Pair(u64),
 }
 
 impl std::fmt::Display for Name {
@@ -22,15 +25,18 @@ impl std::fmt::Display for Name {
         match self {
             Name::Step(number) => write!(f, "step {number}"),
             Name::Run(number) => write!(f, "run {number}"),
+            Name::Pair(number) => write!(f, "pair {number}"),
         }
     }
 }
 
-/// A case on which the two differ. For a run it is the state before the call that differs, not the program's start.
+/// A case on which the two differ. For a run it is the state before the call that differs, not the program's start; for a
+/// pair too, and `other` is the same with the other memory.
 pub struct Failure {
     pub seed: u64,
     pub name: Name,
     pub case: Case,
+    pub other: Option<Case>,
     pub differences: Vec<String>,
 }
 
@@ -43,27 +49,33 @@ impl Failure {
         )
     }
 
-    /// Writes the case into a folder, with what differs as comments, and gives the file's path.
-    pub fn save(&self, folder: &Path) -> std::io::Result<PathBuf> {
+    /// Writes the case, or a pair's two, into a folder, with what differs as comments, and gives the files' paths.
+    pub fn save(&self, folder: &Path) -> std::io::Result<Vec<PathBuf>> {
         std::fs::create_dir_all(folder)?;
         let name = self.name.to_string().replace(' ', "-");
-        let path = folder.join(format!("seed-{}-{name}.case", self.seed));
-        let mut file = format!("# {}\n", self.title());
+        let mut head = format!("# {}\n", self.title());
         for line in &self.differences {
-            file += &format!("# {line}\n");
+            head += &format!("# {line}\n");
         }
-        std::fs::write(&path, file + &text::write(&self.case))?;
-        Ok(path)
+        let mut paths = Vec::new();
+        for (case, end) in [(Some(&self.case), ""), (self.other.as_ref(), "-other")] {
+            if let Some(case) = case {
+                let path = folder.join(format!("seed-{}-{name}{end}.case", self.seed));
+                std::fs::write(&path, head.clone() + &text::write(case))?;
+                paths.push(path);
+            }
+        }
+        Ok(paths)
     }
 
     /// The command that makes this case again from its seed.
     pub fn again(&self) -> String {
-        match self.name {
-            Name::Step(number) => {
-                format!("tools/differ again --seed {} --case {number}", self.seed)
-            }
-            Name::Run(number) => format!("tools/differ again --seed {} --run {number}", self.seed),
-        }
+        let which = match self.name {
+            Name::Step(number) => format!("--case {number}"),
+            Name::Run(number) => format!("--run {number}"),
+            Name::Pair(number) => format!("--pair {number}"),
+        };
+        format!("tools/differ again --seed {} {which}", self.seed)
     }
 }
 
@@ -73,7 +85,9 @@ pub struct Soak<L, R> {
     seed: u64,
     pair: Pair,
     case: Case,
+    twins: Twins,
     pub mix: Mix,
+    pub seen: Seen,
     pub failures: Vec<Failure>,
 }
 
@@ -85,7 +99,9 @@ impl<L: Simulator, R: Simulator> Soak<L, R> {
             seed,
             pair: Pair::default(),
             case: Case::empty(),
+            twins: Twins::default(),
             mix: Mix::default(),
+            seen: Seen::default(),
             failures: Vec::new(),
         }
     }
@@ -115,6 +131,24 @@ impl<L: Simulator, R: Simulator> Soak<L, R> {
         }
     }
 
+    /// A pair of memories, by the calls of its row.
+    pub fn pair(&mut self, number: u64) {
+        let simulators = (&self.left, &self.right);
+        let wrong = self
+            .twins
+            .check(simulators, self.seed, number, &mut self.seen);
+        if !wrong.is_empty() {
+            let [case, other] = self.twins.made.cases.clone();
+            self.failures.push(Failure {
+                seed: self.seed,
+                name: Name::Pair(number),
+                case,
+                other: Some(other),
+                differences: wrong,
+            });
+        }
+    }
+
     fn compare(&mut self, name: Name) -> bool {
         let same = self.pair.agree(&self.left, &self.right, &self.case);
         if !same {
@@ -122,6 +156,7 @@ impl<L: Simulator, R: Simulator> Soak<L, R> {
                 seed: self.seed,
                 name,
                 case: self.case.clone(),
+                other: None,
                 differences: self.pair.differences(),
             });
         }
@@ -144,8 +179,17 @@ mod tests {
     }
 
     #[test]
+    fn the_pairs_have_everything() {
+        let mut soak = Soak::new(Second, Second, 1);
+        (0..20_000).for_each(|number| soak.pair(number));
+        assert!(soak.failures.is_empty());
+        assert_eq!(soak.seen.complaints(), Vec::<String>::new());
+    }
+
+    #[test]
     fn an_empty_mix_has_nothing() {
         assert_eq!(Mix::default().complaints(true).len(), 24 + 16 + 4 + 1);
         assert_eq!(Mix::default().complaints(false).len(), 24 + 16 + 3 + 1);
+        assert_eq!(Seen::default().complaints().len(), 30 + 14 + 14 + 7 + 4 + 1);
     }
 }

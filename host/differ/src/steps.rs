@@ -85,7 +85,7 @@ fn wish(random: &mut Random, view: &View, sum: bool) -> Wish {
 }
 
 /// Puts the word into the code page and points pc at it, or hands it in; gives the word unless pc points elsewhere.
-fn fetch(maker: &mut Maker, word: u32) -> Option<u32> {
+pub fn fetch(maker: &mut Maker, word: u32) -> Option<u32> {
     let given = maker.random.chance(35);
     let low = match maker.random.below(16) {
         0 => 0,

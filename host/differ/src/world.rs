@@ -35,7 +35,9 @@ pub const U: u64 = 16;
 pub const A: u64 = 64;
 pub const D: u64 = 128;
 /// The frame number's bits, 53:10.
-const FRAME: u64 = ((1 << 44) - 1) << 10;
+pub const FRAME: u64 = ((1 << 44) - 1) << 10;
+/// The bits of a leaf that must be 0, 63:54.
+pub const RESERVED: u64 = !0 << 54;
 
 /// One more than the largest virtual page number.
 pub const NUMBERS: u64 = 1 << 27;
@@ -70,7 +72,7 @@ impl World {
     pub fn at(&self, role: Role, sv39: bool, offset: u64) -> u64 {
         let page = self.pages[role as usize];
         if sv39 {
-            (((page.number << 37) as i64 >> 25) as u64).wrapping_add(offset)
+            address(page.number).wrapping_add(offset)
         } else {
             BASE + page.place * PAGE + offset
         }
@@ -89,6 +91,11 @@ impl World {
     }
 }
 
+/// The virtual address of a page's first byte.
+pub fn address(number: u64) -> u64 {
+    ((number << 37) as i64 >> 25) as u64
+}
+
 /// The leaf of a page without its frame, as its role wants it when U is `user`.
 fn leaf(random: &mut Random, role: Role, user: bool) -> u64 {
     let rights = match role {
@@ -105,14 +112,18 @@ fn leaf(random: &mut Random, role: Role, user: bool) -> u64 {
 
 /// Spoils a leaf: one of its low bits turned, a reserved bit set, or a frame that is another one or lies outside memory.
 fn spoiled(random: &mut Random, leaf: u64, mem_pages: u64) -> u64 {
-    const RESERVED: u64 = !0 << 54;
-    let beside = [BASE / PAGE + mem_pages, BASE / PAGE - 1, 0, (1 << 44) - 1];
     match random.below(8) {
         0..=4 => leaf ^ random.one_bit(0xFF),
         5 => leaf | random.one_bit(RESERVED),
         6 => leaf ^ random.one_bit(FRAME),
-        _ => leaf & !FRAME | random.pick(&beside) << 10,
+        _ => leaf & !FRAME | outside(random, mem_pages),
     }
+}
+
+/// A frame outside memory, as a leaf holds it.
+pub fn outside(random: &mut Random, mem_pages: u64) -> u64 {
+    let beside = [BASE / PAGE + mem_pages, BASE / PAGE - 1, 0, (1 << 44) - 1];
+    random.pick(&beside) << 10
 }
 
 /// How the map of a case is made.
