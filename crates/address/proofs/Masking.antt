@@ -1,18 +1,32 @@
 -- Masking, over the number of masked bits.
 -- Assumes nothing.
-use mathlib.Core.Path.{_≡_}
+use mathlib.Core.Path.{_≡_, refl, ap}
 use mathlib.Core.Bool.{Bool, true, false}
 use Prim.Native.Nat.{ℕ, _+_, _-_, _/_, _%_, _^_, _<_, _≤_}
 use native.Mathlib.Nat.{mod-lt, zero-mul, one-mul, add-zero}
 use native.Mathlib.Omega.{arith}
 use lib.Pow.{pow-pos, pow-mono}
-use Rattle.address.specs.Mask.{maskOf}
+use Rattle.word.specs.Choice.{pick}
+use Rattle.page.specs.declared.Kind.{Kind}
+use Rattle.page.specs.declared.Mode.{Mode}
+use Rattle.address.specs.Control.{pmmOf, pagedOf, unmaskedOf}
+use Rattle.address.specs.Mask.{pmlenOf, maskOf, maskedOf, transformedOf}
+use Rattle.address.specs.declared.control.Control.{Control}
 
 -- no masked bits, no change
 pub mask-none : (p : ℕ) (paged : Bool) (a : ℕ) → a < 2 ^ 64 → p ≡ 0 → a ≡ maskOf p paged a
 unfolding maskOf
 mask-none p true a h e = rw e (omega arith)
 mask-none p false a h e = rw e (omega arith)
+
+-- so an access of a mode whose PMM is 0 keeps its address, whether masking is lifted or not
+pub transform-none : (c : Control) (m : Mode) (k : Kind) (a : ℕ) → a < 2 ^ 64 → pmmOf m (c .upmm) (c .spmm) (c .mpmm) ≡ 0 → a ≡ transformedOf c m k a
+unfolding transformedOf
+transform-none c m k a h e = go (unmaskedOf c k)
+  where
+    go : (b : Bool) → a ≡ pick b a (maskedOf c m a)
+    go true = refl
+    go false = mask-none _ (pagedOf m (c .sv39)) a h (ap pmlenOf e)
 
 -- m counts the values of the bits that stay
 module _ (p a m : ℕ) (e : m ≡ 2 ^ (64 - p)) where

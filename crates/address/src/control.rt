@@ -146,8 +146,8 @@ pub fn flat(c: Control) -> bool
     if paged(c, m) {
         return false;
     }
-    if unmasked(c, Kind::Load) {
+    if pmm(c, m) == 0 {
         return true;
     }
-    pmm(c, m) == 0
+    unmasked(c, Kind::Load)
 }

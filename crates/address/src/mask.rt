@@ -49,9 +49,13 @@ pub fn transform(c: Control, m: Mode, k: Kind, a: Virtual) -> Virtual
     ensures { λ r. ⌜ r .0 ≡ transformedOf c m k (a .0) ⌝ }
 {
     let v = a.0;
-    let masked = mask(pmlen(control::pmm(c, m)), control::paged(c, m), v);
+    let pmm = control::pmm(c, m);
+    // Asked first: where no bit is masked, nothing need be known of the rest.
+    if pmm == 0 {
+        return Virtual(v);
+    }
     if control::unmasked(c, k) {
         return Virtual(v);
     }
-    Virtual(masked)
+    Virtual(mask(pmlen(pmm), control::paged(c, m), v))
 }

@@ -34,7 +34,7 @@ use Rattle.effect.specs.declared.Whole.{Whole}
 use Rattle.effect.specs.declared.Whole.the-variants as whole
 use Rattle.hart.proofs.Kept.{trap-keeps}
 use Rattle.transfer.specs.Commit.{memoryOf}
-use Rattle.hart.specs.Step.{changedOf, csrOf, wholeOf, applyOf, trapsOf, planOf, stepFrom}
+use Rattle.hart.specs.Step.{changedOf, csrOf, wholeOf, applyOf, planOf, stepFrom}
 use Rattle.hart.specs.declared.Hart.{Hart}
 use Rattle.origin.proofs.Origins.{Origin, WholeOrigin, origin}
 use Rattle.origin.proofs.Users.{in-user, Same, same-on, same-force, user-keeps}

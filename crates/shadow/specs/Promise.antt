@@ -17,7 +17,7 @@ use mathlib.Core.Bool.{Bool, true, false, _&&_, not}
 use mathlib.Core.List.{List, [], _∷_}
 use mathlib.Core.Logic.{_↔_}
 use mathlib.Core.Path.{_≡_}
-use Prim.Native.Nat.{ℕ, suc, _+_, _-_, _*_, _/_, _%_, _^_, _≤_}
+use Prim.Native.Nat.{ℕ, suc, _+_, _-_, _*_, _/_, _%_, _^_}
 use lib.Dec.{leb, ltb}
 use lib.ListN.{getD, drop, length}
 use Rattle.word.specs.Choice.{pick}
@@ -27,7 +27,7 @@ use Rattle.isa.specs.declared.CsrOperation.{CsrOperation}
 use Rattle.isa.specs.declared.Instruction.the-variants as instruction
 use Rattle.isa.specs.declared.Width.{Width}
 use Rattle.isa.specs.declared.Width.the-variants.{Double}
-use Rattle.leaf.specs.Leaf.{leafOf, hasRight, shadowPage, validLeaf}
+use Rattle.leaf.specs.Leaf.{leafOf, shadowPage}
 use Rattle.page.specs.declared.Kind.the-variants as kind
 use Rattle.place.specs.Place.{base, frameOf, placeOf}
 use Rattle.place.specs.declared.Physical.{Physical}

@@ -1,8 +1,8 @@
 -- `address::control::flat` meets its contract: the three tests in their order. Assumes nothing.
-use mathlib.Core.Bool.{true, false}
-use mathlib.Core.Path.{_≡_, sym, _∙_}
+use mathlib.Core.Bool.{Bool, true, false, _||_}
+use mathlib.Core.Path.{_≡_, refl, sym, _∙_}
 use Prim.Native.Nat.{ℕ}
-use lib.Dec.{eqb}
+use borrow.Author.Tests.{ne-eqb}
 use Rattle.page.specs.declared.Kind.the-variants.{Load}
 use Rattle.page.specs.declared.Mode.{Mode}
 use Rattle.address.specs.Control.{modeOf, pmmOf, pagedOf, unmaskedOf, flatOf}
@@ -11,19 +11,27 @@ use borrow.Author.Needs.{needs}
 use Rattle.address.proofs.control.flat.Statement.{statement}
 use Rattle.address.proofs.control.flat.Tie as tie
 
+or-true : (b : Bool) → (b || true) ≡ true
+or-true true = refl
+or-true false = refl
+
+or-false : (b : Bool) → (b || false) ≡ b
+or-false true = refl
+or-false false = refl
+
 -- m is the effective mode of loads
 module _ (c : Control) (m : Mode) (e : m ≡ modeOf c Load) where
   translated : pagedOf m (c .sv39) ≡ true → false ≡ flatOf c
   unfolding flatOf
   translated p = rw (← e, p)
 
-  by-lifting : pagedOf m (c .sv39) ≡ false → unmaskedOf c Load ≡ true → true ≡ flatOf c
+  by-mask : (n : ℕ) → pagedOf m (c .sv39) ≡ false → n ≡ pmmOf m (c .upmm) (c .spmm) (c .mpmm) → n ≡ 0 → true ≡ flatOf c
   unfolding flatOf
-  by-lifting p u = rw (← e, p, u)
+  by-mask n p q z = let w : pmmOf m (c .upmm) (c .spmm) (c .mpmm) ≡ 0 = sym q ∙ z in rw (← e, p, w, or-true (unmaskedOf c Load))
 
-  by-mask : (n : ℕ) → pagedOf m (c .sv39) ≡ false → unmaskedOf c Load ≡ false → n ≡ pmmOf m (c .upmm) (c .spmm) (c .mpmm) → eqb n 0 ≡ flatOf c
+  by-lifting : (n : ℕ) → pagedOf m (c .sv39) ≡ false → n ≡ pmmOf m (c .upmm) (c .spmm) (c .mpmm) → (n ≡ 0 → ⊥) → unmaskedOf c Load ≡ flatOf c
   unfolding flatOf
-  by-mask n p u q = rw (← e, p, u, q)
+  by-lifting n p q z = rw (← e, p, ← q, ne-eqb n 0 z, or-false (unmaskedOf c Load))
 
 returns : tie.Need-returns
 returns c =
@@ -33,13 +41,14 @@ returns c =
 returns-2 : tie.Need-returns-2
 returns-2 c =
     let p = c .before .before .before in
-    by-lifting _ _ (p .before .effective .ensures) (sym (p .paged .ensures) ∙ c .before .before .if1 .left) (sym (c .before .unmasked .ensures) ∙ c .if2 .taken)
+    by-mask _ _ (p .before .effective .ensures) _ (sym (p .paged .ensures) ∙ c .before .before .if1 .left) (c .before .pmm .ensures) (c .if2 .taken)
 
 returns-3 : tie.Need-returns-3
 returns-3 c =
     let u = c .before .before in
     let p = u .before .before in
-    by-mask _ _ (p .before .effective .ensures) _ (sym (p .paged .ensures) ∙ u .before .if1 .left) (sym (u .unmasked .ensures) ∙ c .before .if2 .left) (c .pmm .ensures)
+    c .unmasked .ensures
+    ∙ by-lifting _ _ (p .before .effective .ensures) _ (sym (p .paged .ensures) ∙ u .before .if1 .left) (u .pmm .ensures) (c .before .if2 .left)
 
 pub flat-spec : {M : Type 1} → statement M
 flat-spec =
