@@ -28,6 +28,11 @@ transform-none c m k a h e = go (unmaskedOf c k)
     go true = refl
     go false = mask-none _ (pagedOf m (c .sv39)) a h (ap pmlenOf e)
 
+-- and so does one that step 2 does not mask
+pub transform-unmasked : (c : Control) (m : Mode) (k : Kind) (a : ℕ) → unmaskedOf c k ≡ true → a ≡ transformedOf c m k a
+unfolding transformedOf
+transform-unmasked c m k a u = rw u
+
 -- m counts the values of the bits that stay
 module _ (p a m : ℕ) (e : m ≡ 2 ^ (64 - p)) where
   kept : (0 < m) × (m ≤ 2 ^ 64)

@@ -2,7 +2,7 @@
 use mathlib.Core.Path.{sym, _∙_}
 use native.Mathlib.Omega.{arith}
 use Rattle.address.specs.Mask.{transformedOf}
-use Rattle.address.proofs.Masking.{transform-none}
+use Rattle.address.proofs.Masking.{transform-none, transform-unmasked}
 use borrow.Author.Needs.{needs}
 use Rattle.address.proofs.mask.transform.Statement.{statement}
 use Rattle.address.proofs.mask.transform.Tie as tie
@@ -13,8 +13,9 @@ returns c = transform-none _ _ _ _ (omega arith) (sym (c .before .pmm .ensures) 
 
 -- this access is not masked
 returns-2 : tie.Need-returns-2
-unfolding transformedOf
-returns-2 c = rw (sym (c .before .unmasked .ensures) ∙ c .if2 .taken)
+returns-2 c =
+    let b = c .before .before .before .before .args in
+    transform-unmasked (b .c) (b .m) (b .k) (b .a .0) (sym (c .before .unmasked .ensures) ∙ c .if2 .taken)
 
 returns-3 : tie.Need-returns-3
 unfolding transformedOf
