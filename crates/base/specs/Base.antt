@@ -7,8 +7,8 @@ use Rattle.word.specs.declared.field.Fields.{Fields}
 use Rattle.isa.specs.declared.Width.the-variants.{Byte, Half, Word, Double}
 use Rattle.isa.specs.declared.Access.the-variants.{Load, Store}
 use Rattle.isa.specs.declared.Condition.the-variants.{Equal, NotEqual, Less, NotLess, LessUnsigned, NotLessUnsigned}
-use Rattle.isa.specs.declared.Operation.the-variants.{Add, Sub, Sll, Slt, Sltu, Xor, Srl, Sra, Or, And}
-use Rattle.isa.specs.declared.WordOperation.the-variants.{Addw, Subw, Sllw, Srlw, Sraw}
+use Rattle.isa.specs.declared.Operation.the-variants.{Add, Sub, Sll, Slt, Sltu, Xor, Srl, Sra, Or, And, Mul, Mulh, Mulhsu, Mulhu, Div, Divu, Rem, Remu, Min, Minu, Max, Maxu, Clz, Ctz, Cpop}
+use Rattle.isa.specs.declared.WordOperation.the-variants.{Addw, Subw, Sllw, Srlw, Sraw, Mulw, Divw, Divuw, Remw, Remuw, Clzw, Ctzw, Cpopw}
 use Rattle.isa.specs.declared.Instruction.{Instruction}
 use Rattle.isa.specs.declared.Instruction.the-variants.{Illegal, Jalr, Branch, Memory, OpImm, OpImm32, Op, Op32, Fence}
 
@@ -66,6 +66,32 @@ stores f o =
 unfoldable pub storeOf : Fields → ℕ → Instruction
 storeOf f o = look (f .funct3) (stores f o)
 
+-- funct7, rs2 and funct3 side by side
+abbrev pub countKey : Fields → ℕ
+countKey f = f .funct7 * 256 + f .rs2 * 8 + f .funct3
+
+-- CLZ, CTZ, CPOP
+abbrev pub counts : Fields → Table Instruction
+counts f =
+    0b0110000_00000_001 ⇒ OpImm Clz (f .rd) (f .rs1) 0
+    ¦ 0b0110000_00001_001 ⇒ OpImm Ctz (f .rd) (f .rs1) 0
+    ¦ 0b0110000_00010_001 ⇒ OpImm Cpop (f .rd) (f .rs1) 0
+    ¦ otherwise Illegal
+
+unfoldable pub countOf : Fields → Instruction
+countOf f = look (countKey f) (counts f)
+
+-- CLZW, CTZW, CPOPW
+abbrev pub countWords : Fields → Table Instruction
+countWords f =
+    0b0110000_00000_001 ⇒ OpImm32 Clzw (f .rd) (f .rs1) 0
+    ¦ 0b0110000_00001_001 ⇒ OpImm32 Ctzw (f .rd) (f .rs1) 0
+    ¦ 0b0110000_00010_001 ⇒ OpImm32 Cpopw (f .rd) (f .rs1) 0
+    ¦ otherwise Illegal
+
+unfoldable pub countWordOf : Fields → Instruction
+countWordOf f = look (countKey f) (countWords f)
+
 -- SLLI, SRLI, SRAI: bits 31:26 before funct3, and the amount in bits 25:20
 abbrev pub shiftKey : Fields → ℕ
 shiftKey f = f .funct7 / 2 * 8 + f .funct3
@@ -78,7 +104,7 @@ shifts f =
     0b000000_001 ⇒ OpImm Sll (f .rd) (f .rs1) (shiftAmount f)
     ¦ 0b000000_101 ⇒ OpImm Srl (f .rd) (f .rs1) (shiftAmount f)
     ¦ 0b010000_101 ⇒ OpImm Sra (f .rd) (f .rs1) (shiftAmount f)
-    ¦ otherwise Illegal
+    ¦ otherwise (countOf f)
 
 unfoldable pub shiftOf : Fields → Instruction
 shiftOf f = look (shiftKey f) (shifts f)
@@ -103,7 +129,7 @@ wordShifts f =
     0b0000000_001 ⇒ OpImm32 Sllw (f .rd) (f .rs1) (f .rs2)
     ¦ 0b0000000_101 ⇒ OpImm32 Srlw (f .rd) (f .rs1) (f .rs2)
     ¦ 0b0100000_101 ⇒ OpImm32 Sraw (f .rd) (f .rs1) (f .rs2)
-    ¦ otherwise Illegal
+    ¦ otherwise (countWordOf f)
 
 unfoldable pub wordShiftOf : Fields → Instruction
 wordShiftOf f = look (functs f) (wordShifts f)
@@ -129,6 +155,18 @@ ops f =
     ¦ 0b0100000_101 ⇒ Op Sra (f .rd) (f .rs1) (f .rs2)
     ¦ 0b0000000_110 ⇒ Op Or (f .rd) (f .rs1) (f .rs2)
     ¦ 0b0000000_111 ⇒ Op And (f .rd) (f .rs1) (f .rs2)
+    ¦ 0b0000001_000 ⇒ Op Mul (f .rd) (f .rs1) (f .rs2)
+    ¦ 0b0000001_001 ⇒ Op Mulh (f .rd) (f .rs1) (f .rs2)
+    ¦ 0b0000001_010 ⇒ Op Mulhsu (f .rd) (f .rs1) (f .rs2)
+    ¦ 0b0000001_011 ⇒ Op Mulhu (f .rd) (f .rs1) (f .rs2)
+    ¦ 0b0000001_100 ⇒ Op Div (f .rd) (f .rs1) (f .rs2)
+    ¦ 0b0000001_101 ⇒ Op Divu (f .rd) (f .rs1) (f .rs2)
+    ¦ 0b0000001_110 ⇒ Op Rem (f .rd) (f .rs1) (f .rs2)
+    ¦ 0b0000001_111 ⇒ Op Remu (f .rd) (f .rs1) (f .rs2)
+    ¦ 0b0000101_100 ⇒ Op Min (f .rd) (f .rs1) (f .rs2)
+    ¦ 0b0000101_101 ⇒ Op Minu (f .rd) (f .rs1) (f .rs2)
+    ¦ 0b0000101_110 ⇒ Op Max (f .rd) (f .rs1) (f .rs2)
+    ¦ 0b0000101_111 ⇒ Op Maxu (f .rd) (f .rs1) (f .rs2)
     ¦ otherwise Illegal
 
 unfoldable pub opOf : Fields → Instruction
@@ -142,6 +180,11 @@ op32s f =
     ¦ 0b0000000_001 ⇒ Op32 Sllw (f .rd) (f .rs1) (f .rs2)
     ¦ 0b0000000_101 ⇒ Op32 Srlw (f .rd) (f .rs1) (f .rs2)
     ¦ 0b0100000_101 ⇒ Op32 Sraw (f .rd) (f .rs1) (f .rs2)
+    ¦ 0b0000001_000 ⇒ Op32 Mulw (f .rd) (f .rs1) (f .rs2)
+    ¦ 0b0000001_100 ⇒ Op32 Divw (f .rd) (f .rs1) (f .rs2)
+    ¦ 0b0000001_101 ⇒ Op32 Divuw (f .rd) (f .rs1) (f .rs2)
+    ¦ 0b0000001_110 ⇒ Op32 Remw (f .rd) (f .rs1) (f .rs2)
+    ¦ 0b0000001_111 ⇒ Op32 Remuw (f .rd) (f .rs1) (f .rs2)
     ¦ otherwise Illegal
 
 unfoldable pub op32Of : Fields → Instruction

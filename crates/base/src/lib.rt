@@ -8,7 +8,7 @@ use isa::Width;
 use isa::WordOperation;
 use word::field::Fields;
 ghost use mathlib.Core.Path.{_≡_};
-ghost use Rattle.base.specs.Base.{jalrOf, branchOf, loadOf, storeOf, shiftOf, opImmOf, wordShiftOf, opImm32Of, opOf, op32Of, miscMemOf};
+ghost use Rattle.base.specs.Base.{jalrOf, branchOf, loadOf, storeOf, countOf, countWordOf, shiftOf, opImmOf, wordShiftOf, opImm32Of, opOf, op32Of, miscMemOf};
 
 pub fn jalr(f: Fields, offset: u64) -> Instruction
     ensures { λ r. ⌜ r ≡ jalrOf f offset ⌝ }
@@ -64,6 +64,18 @@ pub fn store(f: Fields, offset: u64) -> Instruction
     }
 }
 
+// CLZ, CTZ and CPOP: funct7, rs2 and funct3.
+fn count(f: Fields) -> Instruction
+    ensures { λ r. ⌜ r ≡ countOf f ⌝ }
+{
+    match f.funct7 as u32 * 256 + f.rs2 as u32 * 8 + f.funct3 as u32 {
+        0b0110000_00000_001 => Instruction::OpImm(Operation::Clz, f.rd, f.rs1, 0),
+        0b0110000_00001_001 => Instruction::OpImm(Operation::Ctz, f.rd, f.rs1, 0),
+        0b0110000_00010_001 => Instruction::OpImm(Operation::Cpop, f.rd, f.rs1, 0),
+        _ => Instruction::Illegal,
+    }
+}
+
 // The immediate shifts: funct6 and funct3; the amount has six bits.
 fn shift(f: Fields) -> Instruction
     ensures { λ r. ⌜ r ≡ shiftOf f ⌝ }
@@ -73,7 +85,7 @@ fn shift(f: Fields) -> Instruction
         0b000000_001 => Instruction::OpImm(Operation::Sll, f.rd, f.rs1, amount),
         0b000000_101 => Instruction::OpImm(Operation::Srl, f.rd, f.rs1, amount),
         0b010000_101 => Instruction::OpImm(Operation::Sra, f.rd, f.rs1, amount),
-        _ => Instruction::Illegal,
+        _ => count(f),
     }
 }
 
@@ -92,6 +104,18 @@ pub fn op_imm(f: Fields, imm: u64) -> Instruction
     }
 }
 
+// Their word forms.
+fn count_word(f: Fields) -> Instruction
+    ensures { λ r. ⌜ r ≡ countWordOf f ⌝ }
+{
+    match f.funct7 as u32 * 256 + f.rs2 as u32 * 8 + f.funct3 as u32 {
+        0b0110000_00000_001 => Instruction::OpImm32(WordOperation::Clzw, f.rd, f.rs1, 0),
+        0b0110000_00001_001 => Instruction::OpImm32(WordOperation::Ctzw, f.rd, f.rs1, 0),
+        0b0110000_00010_001 => Instruction::OpImm32(WordOperation::Cpopw, f.rd, f.rs1, 0),
+        _ => Instruction::Illegal,
+    }
+}
+
 // The shifts of words: the amount has the five bits of rs2.
 fn word_shift(f: Fields) -> Instruction
     ensures { λ r. ⌜ r ≡ wordShiftOf f ⌝ }
@@ -101,7 +125,7 @@ fn word_shift(f: Fields) -> Instruction
         0b0000000_001 => Instruction::OpImm32(WordOperation::Sllw, f.rd, f.rs1, amount),
         0b0000000_101 => Instruction::OpImm32(WordOperation::Srlw, f.rd, f.rs1, amount),
         0b0100000_101 => Instruction::OpImm32(WordOperation::Sraw, f.rd, f.rs1, amount),
-        _ => Instruction::Illegal,
+        _ => count_word(f),
     }
 }
 
@@ -129,6 +153,18 @@ pub fn op(f: Fields) -> Instruction
         0b0100000_101 => Instruction::Op(Operation::Sra, f.rd, f.rs1, f.rs2),
         0b0000000_110 => Instruction::Op(Operation::Or, f.rd, f.rs1, f.rs2),
         0b0000000_111 => Instruction::Op(Operation::And, f.rd, f.rs1, f.rs2),
+        0b0000001_000 => Instruction::Op(Operation::Mul, f.rd, f.rs1, f.rs2),
+        0b0000001_001 => Instruction::Op(Operation::Mulh, f.rd, f.rs1, f.rs2),
+        0b0000001_010 => Instruction::Op(Operation::Mulhsu, f.rd, f.rs1, f.rs2),
+        0b0000001_011 => Instruction::Op(Operation::Mulhu, f.rd, f.rs1, f.rs2),
+        0b0000001_100 => Instruction::Op(Operation::Div, f.rd, f.rs1, f.rs2),
+        0b0000001_101 => Instruction::Op(Operation::Divu, f.rd, f.rs1, f.rs2),
+        0b0000001_110 => Instruction::Op(Operation::Rem, f.rd, f.rs1, f.rs2),
+        0b0000001_111 => Instruction::Op(Operation::Remu, f.rd, f.rs1, f.rs2),
+        0b0000101_100 => Instruction::Op(Operation::Min, f.rd, f.rs1, f.rs2),
+        0b0000101_101 => Instruction::Op(Operation::Minu, f.rd, f.rs1, f.rs2),
+        0b0000101_110 => Instruction::Op(Operation::Max, f.rd, f.rs1, f.rs2),
+        0b0000101_111 => Instruction::Op(Operation::Maxu, f.rd, f.rs1, f.rs2),
         _ => Instruction::Illegal,
     }
 }
@@ -142,6 +178,11 @@ pub fn op_32(f: Fields) -> Instruction
         0b0000000_001 => Instruction::Op32(WordOperation::Sllw, f.rd, f.rs1, f.rs2),
         0b0000000_101 => Instruction::Op32(WordOperation::Srlw, f.rd, f.rs1, f.rs2),
         0b0100000_101 => Instruction::Op32(WordOperation::Sraw, f.rd, f.rs1, f.rs2),
+        0b0000001_000 => Instruction::Op32(WordOperation::Mulw, f.rd, f.rs1, f.rs2),
+        0b0000001_100 => Instruction::Op32(WordOperation::Divw, f.rd, f.rs1, f.rs2),
+        0b0000001_101 => Instruction::Op32(WordOperation::Divuw, f.rd, f.rs1, f.rs2),
+        0b0000001_110 => Instruction::Op32(WordOperation::Remw, f.rd, f.rs1, f.rs2),
+        0b0000001_111 => Instruction::Op32(WordOperation::Remuw, f.rd, f.rs1, f.rs2),
         _ => Instruction::Illegal,
     }
 }

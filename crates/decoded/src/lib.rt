@@ -38,6 +38,21 @@ fn operation(o: Operation) -> u64 {
         Operation::Sra => 7,
         Operation::Or => 8,
         Operation::And => 9,
+        Operation::Mul => 10,
+        Operation::Mulh => 11,
+        Operation::Mulhsu => 12,
+        Operation::Mulhu => 13,
+        Operation::Div => 14,
+        Operation::Divu => 15,
+        Operation::Rem => 16,
+        Operation::Remu => 17,
+        Operation::Min => 18,
+        Operation::Minu => 19,
+        Operation::Max => 20,
+        Operation::Maxu => 21,
+        Operation::Clz => 22,
+        Operation::Ctz => 23,
+        Operation::Cpop => 24,
     }
 }
 
@@ -48,6 +63,14 @@ fn word_operation(o: WordOperation) -> u64 {
         WordOperation::Sllw => 2,
         WordOperation::Srlw => 3,
         WordOperation::Sraw => 4,
+        WordOperation::Mulw => 5,
+        WordOperation::Divw => 6,
+        WordOperation::Divuw => 7,
+        WordOperation::Remw => 8,
+        WordOperation::Remuw => 9,
+        WordOperation::Clzw => 10,
+        WordOperation::Ctzw => 11,
+        WordOperation::Cpopw => 12,
     }
 }
 

@@ -6,9 +6,13 @@ use lib.Dec.{eqb, ltb}
 use Rattle.isa.specs.declared.Condition.{Condition}
 use Rattle.isa.specs.declared.Condition.the-variants.{Equal, NotEqual, Less, NotLess, LessUnsigned, NotLessUnsigned}
 use Rattle.isa.specs.declared.Operation.{Operation}
-use Rattle.isa.specs.declared.Operation.the-variants.{Add, Sub, Sll, Slt, Sltu, Xor, Srl, Sra, Or, And}
+use Rattle.isa.specs.declared.Operation.the-variants.{Add, Sub, Sll, Slt, Sltu, Xor, Srl, Sra, Or, And, Mul, Mulh, Mulhsu, Mulhu, Div, Divu, Rem, Remu, Min, Minu, Max, Maxu, Clz, Ctz, Cpop}
 use Rattle.isa.specs.declared.WordOperation.{WordOperation}
-use Rattle.isa.specs.declared.WordOperation.the-variants.{Addw, Subw, Sllw, Srlw, Sraw}
+use Rattle.isa.specs.declared.WordOperation.the-variants.{Addw, Subw, Sllw, Srlw, Sraw, Mulw, Divw, Divuw, Remw, Remuw, Clzw, Ctzw, Cpopw}
+use Rattle.product.specs.Count.{leadingOf, trailingOf, setOf}
+use Rattle.product.specs.Extreme.{smallerOf, largerOf}
+use Rattle.product.specs.Product.{productOf, upperOf, productWordOf}
+use Rattle.product.specs.Quotient.{quotientOf, remainderOf, quotientWordOf, remainderWordOf}
 use Rattle.word.specs.Order.{signedLessOf}
 use Rattle.word.specs.Shift.{leftOf, rightOf, arithmeticOf, leftWordOf, rightWordOf, arithmeticWordOf}
 use Rattle.word.specs.Sum.{sumOf, differenceOf, sumWordOf, differenceWordOf}
@@ -29,6 +33,21 @@ operationOf Srl a b = rightOf a b
 operationOf Sra a b = arithmeticOf a b
 operationOf Or a b = bitOr a b
 operationOf And a b = bitAnd a b
+operationOf Mul a b = productOf a b
+operationOf Mulh a b = upperOf true true a b
+operationOf Mulhsu a b = upperOf true false a b
+operationOf Mulhu a b = upperOf false false a b
+operationOf Div a b = quotientOf true 64 a b
+operationOf Divu a b = quotientOf false 64 a b
+operationOf Rem a b = remainderOf true 64 a b
+operationOf Remu a b = remainderOf false 64 a b
+operationOf Min a b = smallerOf true a b
+operationOf Minu a b = smallerOf false a b
+operationOf Max a b = largerOf true a b
+operationOf Maxu a b = largerOf false a b
+operationOf Clz a b = leadingOf 64 a
+operationOf Ctz a b = trailingOf 64 a
+operationOf Cpop a b = setOf 64 a
 
 abbrev pub wordOperationOf : WordOperation → (a b : ℕ) → ℕ
 wordOperationOf Addw a b = sumWordOf a b
@@ -36,6 +55,14 @@ wordOperationOf Subw a b = differenceWordOf a b
 wordOperationOf Sllw a b = leftWordOf a b
 wordOperationOf Srlw a b = rightWordOf a b
 wordOperationOf Sraw a b = arithmeticWordOf a b
+wordOperationOf Mulw a b = productWordOf a b
+wordOperationOf Divw a b = quotientWordOf true a b
+wordOperationOf Divuw a b = quotientWordOf false a b
+wordOperationOf Remw a b = remainderWordOf true a b
+wordOperationOf Remuw a b = remainderWordOf false a b
+wordOperationOf Clzw a b = leadingOf 32 a
+wordOperationOf Ctzw a b = trailingOf 32 a
+wordOperationOf Cpopw a b = setOf 32 a
 
 -- BEQ, BNE, BLT, BGE, BLTU, BGEU
 abbrev pub conditionOf : Condition → (a b : ℕ) → Bool

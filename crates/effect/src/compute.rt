@@ -2,6 +2,10 @@
 use isa::Condition;
 use isa::Operation;
 use isa::WordOperation;
+use product::count;
+use product::divide;
+use product::extreme;
+use product::multiply;
 use word::logic;
 use word::order;
 use word::shift;
@@ -33,6 +37,21 @@ pub fn operation(o: Operation, a: u64, b: u64) -> u64
         Operation::Sra => shift::arithmetic(a, b),
         Operation::Or => logic::or(a, b),
         Operation::And => logic::and(a, b),
+        Operation::Mul => multiply::product(a, b),
+        Operation::Mulh => multiply::upper(true, true, a, b),
+        Operation::Mulhsu => multiply::upper(true, false, a, b),
+        Operation::Mulhu => multiply::upper(false, false, a, b),
+        Operation::Div => divide::quotient(true, a, b),
+        Operation::Divu => divide::quotient(false, a, b),
+        Operation::Rem => divide::remainder(true, a, b),
+        Operation::Remu => divide::remainder(false, a, b),
+        Operation::Min => extreme::smaller(true, a, b),
+        Operation::Minu => extreme::smaller(false, a, b),
+        Operation::Max => extreme::larger(true, a, b),
+        Operation::Maxu => extreme::larger(false, a, b),
+        Operation::Clz => count::leading(a),
+        Operation::Ctz => count::trailing(a),
+        Operation::Cpop => count::set(a),
     }
 }
 
@@ -45,6 +64,14 @@ pub fn word_operation(o: WordOperation, a: u64, b: u64) -> u64
         WordOperation::Sllw => shift::left_word(a, b),
         WordOperation::Srlw => shift::right_word(a, b),
         WordOperation::Sraw => shift::arithmetic_word(a, b),
+        WordOperation::Mulw => multiply::product_word(a, b),
+        WordOperation::Divw => divide::quotient_word(true, a, b),
+        WordOperation::Divuw => divide::quotient_word(false, a, b),
+        WordOperation::Remw => divide::remainder_word(true, a, b),
+        WordOperation::Remuw => divide::remainder_word(false, a, b),
+        WordOperation::Clzw => count::leading_word(a),
+        WordOperation::Ctzw => count::trailing_word(a),
+        WordOperation::Cpopw => count::set_word(a),
     }
 }
 

@@ -49,6 +49,24 @@ pub enum Operation {
     Sra,
     Or,
     And,
+    // the M extension
+    Mul,
+    Mulh,
+    Mulhsu,
+    Mulhu,
+    Div,
+    Divu,
+    Rem,
+    Remu,
+    // from Zbb
+    Min,
+    Minu,
+    Max,
+    Maxu,
+    // from Zbb, of one operand: the second does not count
+    Clz,
+    Ctz,
+    Cpop,
 }
 
 // What OP-32 and OP-IMM-32 compute.
@@ -58,6 +76,14 @@ pub enum WordOperation {
     Sllw,
     Srlw,
     Sraw,
+    Mulw,
+    Divw,
+    Divuw,
+    Remw,
+    Remuw,
+    Clzw,
+    Ctzw,
+    Cpopw,
 }
 
 // What a CSR instruction does with the CSR.
