@@ -21,11 +21,12 @@ from manifest import SIGNS, WIDTHS, Case, Wrong, choice, hexadecimal, number, pa
 NAME = "decode"
 PACKAGE = "binutils-riscv64-unknown-elf"
 # What the hart lacks is here too, so that the assembler knows the words that must be illegal.
-MARCH = "rv64imafdc_zicsr_zifencei_zihintpause_zicbom_zba_zbb_zbs_svinval"
+MARCH = "rv64imafdc_zicsr_zifencei_zihintpause_zicbom_zba_zbb_zbc_zbkb_zbs_svinval"
 
 CONDITIONS = ["equal", "not-equal", "less", "not-less", "less-unsigned", "not-less-unsigned"]
-OPERATIONS = ["add", "sub", "sll", "slt", "sltu", "xor", "srl", "sra", "or", "and"]
-WORD_OPERATIONS = ["add", "sub", "sll", "srl", "sra"]
+OPERATIONS = ["add", "sub", "sll", "slt", "sltu", "xor", "srl", "sra", "or", "and",
+              "mul", "mulh", "mulhsu", "mulhu", "div", "divu", "rem", "remu", "min", "minu", "max", "maxu", "clz", "ctz", "cpop"]
+WORD_OPERATIONS = ["add", "sub", "sll", "srl", "sra", "mul", "div", "divu", "rem", "remu", "clz", "ctz", "cpop"]
 CSR_OPERATIONS = ["write", "set", "clear"]
 
 # The least and the largest value of each key.
