@@ -8,6 +8,7 @@ changed since those were made.
 A line of the data is a word, '=', eight numbers and the text: family, operation, rd, rs1, rs2, immediate and two more,
 as crates/decoded/src/lib.rt says.
 """
+import functools
 import pathlib
 import re
 import shutil
@@ -199,9 +200,20 @@ def stored(words):
     return [int(line.split()[0], 16) for line in lines]
 
 
+@functools.cache
+def read():
+    """The headings and the lines, in order, each line with its word."""
+    found = manifest.read(NAME, Word)
+    lines = [item for item in found if isinstance(item, Word)]
+    made = iter(flipped(lines, assembled(lines)) if tool("as") else stored(lines))
+    return [(item, next(made) if isinstance(item, Word) else None) for item in found]
+
+
 def items():
     """The headings and the cases, in order."""
-    read = manifest.read(NAME, Word)
-    words = [item for item in read if isinstance(item, Word)]
-    made = iter(flipped(words, assembled(words)) if tool("as") else stored(words))
-    return [item.case(next(made)) if isinstance(item, Word) else item for item in read]
+    return [item if word is None else item.case(word) for item, word in read()]
+
+
+def words():
+    """Of each instruction that is a case as it stands its word."""
+    return {item.code: word for item, word in read() if word is not None and item.flip is None}
