@@ -18,8 +18,8 @@ import re
 import call
 import decode
 import manifest
-from hart import PARTS, REGISTERS, HartCase
-from manifest import LARGEST, Wrong, choice, hexadecimal, number, parts
+from hart import PARTS, REGISTERS
+from manifest import LARGEST, Wrong, choice, number, parts
 
 NAME = "arithmetic"
 CALLS = ["word", "step", "run"]
@@ -101,7 +101,7 @@ class Instruction:
         self.rd, *self.operands = rest.split(", ")
         signs = choice(self.name, MEANING, "instruction of these cases")[1]
         if len(self.operands) != len(signs) or not {self.rd, *self.operands} <= set(REGISTERS):
-            raise Wrong(f"'{self.text}': write rd and the {len(signs)} registers that it reads, as {self.name} x3, x1")
+            raise Wrong(f"'{self.text}': write it as {self.name} {', '.join(['x3', 'x1', 'x2'][:1 + len(signs)])}")
         if self.text not in decode.words():
             raise Wrong(f"'{self.text}' has no word: add it to vectors/decode.txt, for which the assembler makes it")
         self.word = decode.words()[self.text]
@@ -142,7 +142,7 @@ def case(line, how, code, settings):
     told = [instruction.execute(after) for instruction in code]
     after["pc"] += 4 * len(code)
     wanted = [0, len(code), 0, 0] + [after[part] for part in PARTS]
-    return HartCase(line, hexadecimal(given.numbers()), hexadecimal(wanted), f"{' '.join(settings)} {how} | {' '.join(told)}")
+    return call.case(line, given.numbers(), wanted, f"{' '.join(settings)} {how} | {' '.join(told)}")
 
 
 class Reader:
@@ -184,4 +184,4 @@ class Reader:
 def items():
     """The headings and the cases, in order."""
     found = manifest.read(NAME, Reader().cases)
-    return [item for some in found for item in (some if isinstance(some, list) else [some])]
+    return call.fitting(NAME, [item for some in found for item in (some if isinstance(some, list) else [some])])
