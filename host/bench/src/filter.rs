@@ -52,15 +52,13 @@ fn term(number: i32, register: u32) -> [u32; 3] {
     ]
 }
 
-/// x2 is the page of data; x10 and x11 go through the samples up to x18; x12 and x13 are the largest and the smallest sample; x20 is the
-/// block's peak; x21, x22 and x23 are FLOOR, HALF and half a unit of the sum, which rounds it.
-fn code() -> Vec<u32> {
+/// One sample, from x10 to the section's output in x15, and the state for the next one.
+fn section() -> Vec<u32> {
     let mut code = vec![load(2, 5, 10, 0)];
     code.extend((0..4).map(|k| load(2, 6 + k, 2, STATE + 4 * k as i32)));
     code.push(addi(15, 23, 0));
     code.extend((0..5).flat_map(|k| term(k, 5 + k as u32)));
     code.extend([
-        // the section's output, and its state for the next sample
         srai(15, 15, 30),
         min(15, 15, 12),
         max(15, 15, 13),
@@ -68,6 +66,15 @@ fn code() -> Vec<u32> {
         store(2, 6, 2, STATE + 4),
         store(2, 15, 2, STATE + 8),
         store(2, 8, 2, STATE + 12),
+    ]);
+    code
+}
+
+/// x2 is the page of data; x10 and x11 go through the samples up to x18; x12 and x13 are the largest and the smallest sample; x20 is the
+/// block's peak; x21, x22 and x23 are FLOOR, HALF and half a unit of the sum, which rounds it.
+fn code() -> Vec<u32> {
+    let mut code = section();
+    code.extend([
         // the peak
         sub(19, 0, 15),
         max(19, 19, 15),
