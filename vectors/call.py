@@ -207,6 +207,20 @@ class Wanted:
                 + pairs(self.bytes, given.length, changed))
 
 
+def case(line, before, after, text):
+    """The case of these given and wanted numbers, which a line must have room for."""
+    if len(before) + len(after) > MOST_NUMBERS:
+        raise Wrong(f"{len(before) + len(after)} numbers, and a line has room for {MOST_NUMBERS}: use less memory or map")
+    return hart.HartCase(line, hexadecimal(before), hexadecimal(after), text)
+
+
+def fitting(name, items):
+    """The items of a manifest, which the program must have room for."""
+    if sum(len(item.data()) + 1 for item in items) > MOST_BYTES:
+        raise SystemExit(f"vectors/{name}.txt: its data are over {MOST_BYTES} bytes: make two files of it")
+    return items
+
+
 class Maker:
     """The maker of one manifest."""
 
@@ -225,17 +239,11 @@ class Maker:
         left, right, remark = parts(text, "x1=2 x2=3 word 0x002081B3", "next x3=5")
         given = Given(left, self.names)
         wanted = Wanted(right, given)
-        before, after = given.numbers(), wanted.numbers(given)
-        if len(before) + len(after) > MOST_NUMBERS:
-            raise Wrong(f"{len(before) + len(after)} numbers, and a line has room for {MOST_NUMBERS}: use less memory or map")
-        return hart.HartCase(line, hexadecimal(before), hexadecimal(after), said(left, right, remark))
+        return case(line, given.numbers(), wanted.numbers(given), said(left, right, remark))
 
     def items(self):
         """The headings and the cases, in order."""
-        found = [item for item in manifest.read(self.name, self.case) if item is not None]
-        if sum(len(item.data()) + 1 for item in found) > MOST_BYTES:
-            raise SystemExit(f"vectors/{self.name}.txt: its data are over {MOST_BYTES} bytes: make two files of it")
-        return found
+        return fitting(self.name, [item for item in manifest.read(self.name, self.case) if item is not None])
 
 
 # In the order in which the program runs them.

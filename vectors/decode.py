@@ -8,6 +8,7 @@ changed since those were made.
 A line of the data is a word, '=', eight numbers and the text: family, operation, rd, rs1, rs2, immediate and two more,
 as crates/decoded/src/lib.rt says.
 """
+import functools
 import pathlib
 import re
 import shutil
@@ -21,11 +22,12 @@ from manifest import SIGNS, WIDTHS, Case, Wrong, choice, hexadecimal, number, pa
 NAME = "decode"
 PACKAGE = "binutils-riscv64-unknown-elf"
 # What the hart lacks is here too, so that the assembler knows the words that must be illegal.
-MARCH = "rv64imafdc_zicsr_zifencei_zihintpause_zicbom_zba_zbb_zbs_svinval"
+MARCH = "rv64imafdc_zicsr_zifencei_zihintpause_zicbom_zba_zbb_zbc_zbkb_zbs_svinval"
 
 CONDITIONS = ["equal", "not-equal", "less", "not-less", "less-unsigned", "not-less-unsigned"]
-OPERATIONS = ["add", "sub", "sll", "slt", "sltu", "xor", "srl", "sra", "or", "and"]
-WORD_OPERATIONS = ["add", "sub", "sll", "srl", "sra"]
+OPERATIONS = ["add", "sub", "sll", "slt", "sltu", "xor", "srl", "sra", "or", "and",
+              "mul", "mulh", "mulhsu", "mulhu", "div", "divu", "rem", "remu", "min", "minu", "max", "maxu", "clz", "ctz", "cpop"]
+WORD_OPERATIONS = ["add", "sub", "sll", "srl", "sra", "mul", "div", "divu", "rem", "remu", "clz", "ctz", "cpop"]
 CSR_OPERATIONS = ["write", "set", "clear"]
 
 # The least and the largest value of each key.
@@ -198,9 +200,20 @@ def stored(words):
     return [int(line.split()[0], 16) for line in lines]
 
 
+@functools.cache
+def read():
+    """The headings and the lines, in order, each line with its word."""
+    found = manifest.read(NAME, Word)
+    lines = [item for item in found if isinstance(item, Word)]
+    made = iter(flipped(lines, assembled(lines)) if tool("as") else stored(lines))
+    return [(item, next(made) if isinstance(item, Word) else None) for item in found]
+
+
 def items():
     """The headings and the cases, in order."""
-    read = manifest.read(NAME, Word)
-    words = [item for item in read if isinstance(item, Word)]
-    made = iter(flipped(words, assembled(words)) if tool("as") else stored(words))
-    return [item.case(next(made)) if isinstance(item, Word) else item for item in read]
+    return [item if word is None else item.case(word) for item, word in read()]
+
+
+def words():
+    """Of each instruction that is a case as it stands its word."""
+    return {item.code: word for item, word in read() if word is not None and item.flip is None}

@@ -19,8 +19,16 @@ pub fn srli(rd: u32, rs1: u32, shamt: i32) -> u32 {
     i(OP_IMM, 5, rd, rs1, shamt as u64)
 }
 
+pub fn srai(rd: u32, rs1: u32, shamt: i32) -> u32 {
+    i(OP_IMM, 5, rd, rs1, 0x400 | shamt as u64)
+}
+
 pub fn add(rd: u32, rs1: u32, rs2: u32) -> u32 {
     r(OP, 0, 0, rd, rs1, rs2)
+}
+
+pub fn sub(rd: u32, rs1: u32, rs2: u32) -> u32 {
+    r(OP, 0, 0x20, rd, rs1, rs2)
 }
 
 pub fn xor(rd: u32, rs1: u32, rs2: u32) -> u32 {
@@ -29,6 +37,28 @@ pub fn xor(rd: u32, rs1: u32, rs2: u32) -> u32 {
 
 pub fn sltu(rd: u32, rs1: u32, rs2: u32) -> u32 {
     r(OP, 3, 0, rd, rs1, rs2)
+}
+
+/// The M extension: funct7 1.
+pub fn mul(rd: u32, rs1: u32, rs2: u32) -> u32 {
+    r(OP, 0, 1, rd, rs1, rs2)
+}
+
+pub fn mulh(rd: u32, rs1: u32, rs2: u32) -> u32 {
+    r(OP, 1, 1, rd, rs1, rs2)
+}
+
+pub fn div(rd: u32, rs1: u32, rs2: u32) -> u32 {
+    r(OP, 4, 1, rd, rs1, rs2)
+}
+
+/// Minimum and maximum of Zbb: funct7 5.
+pub fn min(rd: u32, rs1: u32, rs2: u32) -> u32 {
+    r(OP, 4, 5, rd, rs1, rs2)
+}
+
+pub fn max(rd: u32, rs1: u32, rs2: u32) -> u32 {
+    r(OP, 6, 5, rd, rs1, rs2)
 }
 
 pub fn addw(rd: u32, rs1: u32, rs2: u32) -> u32 {

@@ -3,6 +3,7 @@
 
 mod count;
 mod encode;
+mod filter;
 mod programs;
 
 use programs::Program;
@@ -93,10 +94,10 @@ fn table(words: &[String]) -> ExitCode {
 mod tests {
     use super::*;
 
-    /// Both simulators do the same with each program, and only the last one traps: else the table would time something else.
+    /// Both simulators do the same with each program, and only one of them traps: else the table would time something else.
     #[test]
     fn the_programs_do_what_they_are_for() {
-        for (row, p) in programs::all().into_iter().enumerate() {
+        for p in programs::all() {
             let (mut ours, mut memory) = (p.hart, p.memory.clone());
             let answer = sporhulma::run(&mut ours, &mut memory, &p.map, 10_000);
             let mut theirs = second::Hart::from_words(&p.hart.x, &p.hart.rest);
@@ -104,7 +105,7 @@ mod tests {
             let told = second::run(&mut theirs, &mut other, &p.map, 10_000);
             assert_eq!(
                 (answer.refusal, answer.trapped),
-                (0, row == 4),
+                (0, p.name == "CSR and trap loop"),
                 "{}",
                 p.name
             );

@@ -1,17 +1,18 @@
-//! The five programs of the table, each with its hart, memory and page map. None of them ends: the benchmark decides how many
+//! The programs of the table, each with its hart, memory and page map. None of them ends: the benchmark decides how many
 //! instructions it takes.
 
 use crate::encode::*;
+use crate::filter;
 use sporhulma::{word, Hart, BASE};
 
 /// Leaf bits: valid, accessed and dirty; and what a page may do.
 const VAD: u64 = 0xC1;
-const R: u64 = 0x02;
-const W: u64 = 0x04;
-const X: u64 = 0x08;
+pub const R: u64 = 0x02;
+pub const W: u64 = 0x04;
+pub const X: u64 = 0x08;
 const U: u64 = 0x10;
 
-const PAGE: usize = 4096;
+pub const PAGE: usize = 4096;
 
 pub struct Program {
     pub name: &'static str,
@@ -21,7 +22,7 @@ pub struct Program {
 }
 
 /// In M at memory's first byte, with the code there and one page of data behind it (its address in x2).
-fn bare(name: &'static str, code: &[u32]) -> Program {
+pub fn bare(name: &'static str, code: &[u32]) -> Program {
     let mut hart = Hart::fresh();
     hart.x[2] = BASE + PAGE as u64;
     let mut memory = vec![0; 2 * PAGE];
@@ -39,6 +40,18 @@ fn place(memory: &mut [u8], at: usize, code: &[u32]) {
     for (k, word) in code.iter().enumerate() {
         memory[at + 4 * k..at + 4 * k + 4].copy_from_slice(&word.to_le_bytes());
     }
+}
+
+/// An entry of the map: memory's page `frame`, for U, with these rights.
+pub fn entry(page: u64, frame: u64, may: u64) -> [u64; 2] {
+    [page, ((BASE / PAGE as u64 + frame) << 10) | VAD | U | may]
+}
+
+/// In U under Sv39, at the first byte of a page.
+pub fn start_in_user(hart: &mut Hart, page: u64) {
+    hart.rest[word::MODE] = 0;
+    hart.rest[word::SATP] = 8 << 60;
+    hart.rest[word::PC] = page * PAGE as u64;
 }
 
 pub fn registers() -> Program {
@@ -109,18 +122,14 @@ pub fn calls(name: &'static str, entries: usize) -> Program {
     let rights = [R | X, R | W, R | W, W];
     let map = (0..entries)
         .flat_map(|n| {
-            let own = used.iter().position(|&u| u == n);
-            let frame = BASE / PAGE as u64 + own.unwrap_or(1) as u64;
-            let may = rights[own.unwrap_or(1)];
-            [0x10 + n as u64, (frame << 10) | VAD | U | may]
+            let own = used.iter().position(|&u| u == n).unwrap_or(1);
+            entry(0x10 + n as u64, own as u64, rights[own])
         })
         .collect();
     let mut hart = Hart::fresh();
-    hart.rest[word::MODE] = 0;
-    hart.rest[word::SATP] = 8 << 60;
+    start_in_user(&mut hart, page(0));
     hart.rest[word::MENVCFG] = 8;
     hart.rest[word::SENVCFG] = 8;
-    hart.rest[word::PC] = page(0) * PAGE as u64;
     hart.x[2] = (page(2) + 1) * PAGE as u64;
     hart.rest[word::SSP] = (page(3) + 1) * PAGE as u64;
     let mut memory = vec![0; 4 * PAGE];
@@ -167,5 +176,7 @@ pub fn all() -> Vec<Program> {
         calls("calls, shadow stack, Sv39, 4 entries", 4),
         calls("calls, shadow stack, Sv39, 64 entries", 64),
         csrs_and_traps(),
+        filter::in_machine(),
+        filter::in_user(),
     ]
 }
