@@ -13,6 +13,10 @@
 # there, on the stack, is the return address that book_load itself has saved. It grows by 4,
 # one instruction: the return skips the call of limit_torque.
 #
+# The product itself, mul16, is linked behind this file: wrapping.s, as the generator wrote it,
+# gives torque.bin, and saturating.s, which mends it, gives mended.bin. Everything up to mul16
+# is the same in both, byte for byte.
+#
 # The same image runs with the shadow stack on or off. The words of sspush_ra and sspopchk_ra
 # are Zimop words: with the shadow stack off they do nothing. A function that saves ra on the
 # stack pushes it on the shadow stack too, and checks it before its return. A function that
@@ -177,7 +181,7 @@ regulate:
         ret
 
 # The load spectrum: add this step's PWM periods to the counter of the present class of power.
-# a0: the table. The product's missing saturation is here, and so is the missing check.
+# a0: the table. The product is taken as mul16 gives it: what is missing here is a check of the class.
 book_load:
         addi    sp, sp, -16
         sd      ra, SAVED_RA(sp)        # the return address that the stray store hits
@@ -189,8 +193,8 @@ book_load:
         srai    a1, a1, TORQUE_SHIFT
 book_load.multiply:                     # here a0 and a1 are the factors
         jal     ra, mul16
-book_load.product:                      # here a0 is the product, wrapped to sixteen bits
-        srai    a0, a0, CLASS_SHIFT     # the class: 0 to 7, or -8 to -1
+book_load.product:                      # here a0 is the product, in sixteen bits
+        srai    a0, a0, CLASS_SHIFT     # the class: 0 to 7, or -8 to -1 if it wrapped
         slli    a0, a0, 2
         ld      t0, 0(sp)
         add     t0, t0, a0
@@ -200,25 +204,9 @@ book_load.store:                        # here t0 is the counter's address, t1 i
         sw      t1, 0(t0)
         ld      ra, SAVED_RA(sp)
 book_load.check:
-        sspopchk_ra                     # with the shadow stack on, the trap is here
+        sspopchk_ra                     # with the shadow stack on, torque.bin traps here
         addi    sp, sp, 16
 book_load.return:
-        ret
-
-# a0 * a1, the low sixteen bits with their sign: shift and add, as RV64I has no multiplication.
-mul16:
-        slli    a1, a1, 48
-        srli    a1, a1, 48
-        li      t0, 0
-1:      beqz    a1, 3f
-        andi    t1, a1, 1
-        beqz    t1, 2f
-        add     t0, t0, a0
-2:      slli    a0, a0, 1
-        srli    a1, a1, 1
-        j       1b
-3:      slli    a0, t0, 48              # an int16_t: nothing saturates, the rest is lost
-        srai    a0, a0, 48
         ret
 
 # The limiter: no more than LIMIT goes to the drive.

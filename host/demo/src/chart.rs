@@ -3,15 +3,16 @@
 use std::fmt::Write;
 
 /// Sizes of text, in the picture's own units.
-pub const TITLE: u32 = 32;
-const TEXT: u32 = 20;
-pub const SMALL: u32 = 18;
+pub const TITLE: u32 = 34;
+const TEXT: u32 = 22;
+pub const SMALL: u32 = 19;
 
 /// Colours: of Okabe and Ito's set, which colour-blind readers tell apart (the green darker, so that text in it
-/// can be read), and greys.
+/// can be read), an indigo that is darker than all of them, and greys.
 pub const BLUE: &str = "#0072B2";
 pub const VERMILION: &str = "#D55E00";
 pub const GREEN: &str = "#007A59";
+pub const INDIGO: &str = "#332288";
 pub const INK: &str = "#1F2933";
 pub const GREY: &str = "#52606D";
 pub const PALE_GREEN: &str = "#E8F4F0";
@@ -56,7 +57,7 @@ impl Panel {
             svg.line((self.at_x(x), self.top), (self.at_x(x), bottom), GRID, "");
             if numbers_below {
                 svg.text(
-                    (self.at_x(x), bottom + 28.0),
+                    (self.at_x(x), bottom + 30.0),
                     Anchor::Middle,
                     GREY,
                     &format!("{x}"),
@@ -66,7 +67,7 @@ impl Panel {
         for y in multiples(self.y, steps.1) {
             svg.line((self.left, self.at_y(y)), (right, self.at_y(y)), GRID, "");
             svg.text(
-                (self.left - 12.0, self.at_y(y) + 7.0),
+                (self.left - 12.0, self.at_y(y) + 8.0),
                 Anchor::End,
                 GREY,
                 &format!("{y}"),

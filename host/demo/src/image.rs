@@ -1,7 +1,11 @@
-//! The controller's image and its symbols, both made by examples/torque/build from torque.s.
+//! The controller's two images and their symbols, made by examples/torque/build. They differ in their product, which
+//! stands last, and so they have the same symbols.
 
-/// The code, to be placed at the start of memory.
-pub const IMAGE: &[u8] = include_bytes!("../../../examples/torque/torque.bin");
+/// The code with the product that wraps, to be placed at the start of memory.
+pub const TORQUE: &[u8] = include_bytes!("../../../examples/torque/torque.bin");
+
+/// The same with the product that saturates.
+pub const MENDED: &[u8] = include_bytes!("../../../examples/torque/mended.bin");
 
 /// Lines of a value in hex and a name: addresses in the code, and the constants of the source.
 const SYMBOLS: &str = include_str!("../../../examples/torque/torque.sym");

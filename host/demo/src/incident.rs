@@ -1,6 +1,7 @@
-//! The incident as a whole: the stray store, and the two runs of the same image, held to what they must show.
+//! The incident as a whole: the stray store, the two runs of the same image, and that of the mended one, held to what
+//! they must show.
 
-use crate::image::{place, symbol};
+use crate::image::{place, symbol, MENDED, TORQUE};
 use crate::layout::{self, Shadow};
 use crate::outcome::{newton_metres, step_ms, Outcome, Sample};
 use crate::stray::{Stray, RA};
@@ -15,6 +16,8 @@ pub struct Incident {
     pub stray: Stray,
     pub off: Outcome,
     pub on: Outcome,
+    /// The controller with the product that saturates, with the shadow stack on.
+    pub mended: Outcome,
     /// The limiter's limit in Nm.
     pub limit: f64,
 }
@@ -24,17 +27,17 @@ impl Incident {
     pub fn happen() -> Result<Incident, String> {
         let incident = Incident {
             stray: Stray::find()?,
-            off: Outcome::of_run(Shadow::Off)?,
-            on: Outcome::of_run(Shadow::On)?,
+            off: Outcome::of_run(TORQUE, Shadow::Off)?,
+            on: Outcome::of_run(TORQUE, Shadow::On)?,
+            mended: Outcome::of_run(MENDED, Shadow::On)?,
             limit: newton_metres(symbol("LIMIT")?)?,
         };
         incident.stray.skips_the_limiter()?;
-        expect("off", &incident.off, (ECALL_FROM_U, 0, symbol("finish")?))?;
-        expect(
-            "on",
-            &incident.on,
-            (SOFTWARE_CHECK, SHADOW_STACK, symbol("book_load.check")?),
-        )?;
+        let whole = (ECALL_FROM_U, 0, symbol("finish")?);
+        let caught = (SOFTWARE_CHECK, SHADOW_STACK, symbol("book_load.check")?);
+        expect("off", "controller", &incident.off, whole)?;
+        expect("on", "controller", &incident.on, caught)?;
+        expect("on", "mended controller", &incident.mended, whole)?;
         Ok(incident)
     }
 
@@ -44,15 +47,6 @@ impl Incident {
             .samples
             .iter()
             .filter(|sample| sample.command > self.limit)
-    }
-
-    /// The largest torque that the drive got, in Nm.
-    pub fn peak(&self) -> f64 {
-        self.off
-            .samples
-            .iter()
-            .map(|sample| sample.command)
-            .fold(0.0, f64::max)
     }
 
     /// The largest change of the drawn speed from one sample to the next, in rpm.
@@ -89,13 +83,18 @@ impl Incident {
 }
 
 /// An error unless the run ended with this cause, this tval, at this address.
-fn expect(shadow: &str, outcome: &Outcome, wanted: (u64, u64, u64)) -> Result<(), String> {
+fn expect(
+    shadow: &str,
+    what: &str,
+    outcome: &Outcome,
+    wanted: (u64, u64, u64),
+) -> Result<(), String> {
     let (cause, tval, pc) = outcome.trap();
     if (cause, tval, pc) == wanted {
         return Ok(());
     }
     Err(format!(
-        "with the shadow stack {shadow} the controller ends with cause {cause}, tval {tval:#x} at {}, \
+        "with the shadow stack {shadow} the {what} ends with cause {cause}, tval {tval:#x} at {}, \
          and not with cause {}, tval {:#x} at {}",
         place(pc),
         wanted.0,

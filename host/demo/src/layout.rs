@@ -1,6 +1,6 @@
 //! How the controller lies in memory, and the hart that starts it: the pages of examples/torque/torque.map.
 
-use crate::image::{symbol, IMAGE};
+use crate::image::symbol;
 use sporhulma::{word, Hart};
 
 /// Physical address of memory's first byte.
@@ -52,10 +52,10 @@ pub fn map() -> Vec<u64> {
         .collect()
 }
 
-/// Memory with the image at its start.
-pub fn memory() -> Vec<u8> {
+/// Memory with an image at its start.
+pub fn memory(image: &[u8]) -> Vec<u8> {
     let mut memory = vec![0; PAGES.len() * PAGE as usize];
-    memory[..IMAGE.len()].copy_from_slice(IMAGE);
+    memory[..image.len()].copy_from_slice(image);
     memory
 }
 

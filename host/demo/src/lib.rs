@@ -1,6 +1,6 @@
 //! The incident: a sixteen-bit product wraps, becomes a table index, and a store runs over a saved return
-//! address. The controller of examples/torque runs twice on the proved hart, with the shadow stack off and on;
-//! [`run`] says what happened in a dozen lines and draws it.
+//! address. The controller of examples/torque runs on the proved hart with the shadow stack off and on, and mended
+//! with it on; [`run`] says what happened in a dozen lines and draws it.
 
 pub mod image;
 pub mod incident;
@@ -32,7 +32,7 @@ impl From<String> for Failure {
     }
 }
 
-/// Runs the controller both ways, writes the picture to the file `svg` and then the story to `out`.
+/// Runs the controller each way, writes the picture to the file `svg` and then the story to `out`.
 /// After a failure the picture is either whole or not there.
 pub fn run(out: &mut dyn Write, svg: &Path) -> Result<(), Failure> {
     let incident = Incident::happen()?;

@@ -27,9 +27,10 @@ pub struct Outcome {
 }
 
 impl Outcome {
-    /// Runs the controller to its first trap.
-    pub fn of_run(shadow: Shadow) -> Result<Outcome, String> {
-        let (mut hart, mut memory, map) = (layout::hart(shadow)?, layout::memory(), layout::map());
+    /// Runs an image of the controller to its first trap.
+    pub fn of_run(image: &[u8], shadow: Shadow) -> Result<Outcome, String> {
+        let (mut hart, mut memory) = (layout::hart(shadow)?, layout::memory(image));
+        let map = layout::map();
         let mut instructions = 0;
         for _ in 0..CALLS {
             let answer = sporhulma::run(&mut hart, &mut memory, &map, BUDGET);
@@ -59,6 +60,12 @@ impl Outcome {
     pub fn trap(&self) -> (u64, u64, u64) {
         let rest = &self.hart.rest;
         (rest[word::MCAUSE], rest[word::MTVAL], rest[word::MEPC])
+    }
+
+    /// The largest torque that the drive got, in Nm.
+    pub fn peak(&self) -> f64 {
+        let commands = self.samples.iter().map(|sample| sample.command);
+        commands.fold(0.0, f64::max)
     }
 }
 

@@ -1,21 +1,22 @@
 //! The picture: above, the speed that the old simulator drew; below, the torque that the drive got; in both the
-//! same program with the shadow stack on, which ends at the trap.
+//! same program with the shadow stack on, which ends at the trap; and below the mended one, which runs through.
 
 use crate::chart::{
-    Anchor, Panel, Svg, BLUE, GREEN, GREY, INK, PALE_GREEN, PALE_VERMILION, SMALL, TITLE, VERMILION,
+    Anchor, Panel, Svg, BLUE, GREEN, GREY, INDIGO, INK, PALE_GREEN, PALE_VERMILION, SMALL, TITLE,
+    VERMILION,
 };
 use crate::image::{place, symbol};
 use crate::incident::Incident;
 use crate::outcome::{step_ms, Outcome, Sample};
 
-const WIDTH: u32 = 1200;
-const HEIGHT: u32 = 940;
+const WIDTH: u32 = 1120;
+const HEIGHT: u32 = 960;
 /// Where headings start, and where the panels do.
-const MARGIN: f64 = 36.0;
-const LEFT: f64 = 110.0;
-const PANEL_WIDTH: f64 = 1050.0;
+const MARGIN: f64 = 24.0;
+const LEFT: f64 = 84.0;
+const PANEL_WIDTH: f64 = 1004.0;
 /// From one line of text to the next.
-const LINE: f64 = 27.0;
+const LINE: f64 = 29.0;
 /// From one grid line to the next: ms, rpm and Nm.
 const GRID_MS: f64 = 100.0;
 const GRID_RPM: f64 = 100.0;
@@ -27,6 +28,8 @@ const DOTTED: &str = "stroke-width=\"2\" stroke-dasharray=\"3 5\"";
 /// The curve of the shadow stack lies under the other, and shows on both sides of it.
 const WIDE: &str = "stroke-width=\"12\"";
 const NARROW: &str = "stroke-width=\"5\"";
+/// The mended curve lies over another, which shows between its dashes.
+const BROKEN: &str = "stroke-width=\"5\" stroke-dasharray=\"16 10\"";
 
 /// The picture as SVG.
 pub fn of(incident: &Incident) -> Result<String, String> {
@@ -44,13 +47,13 @@ pub fn of(incident: &Incident) -> Result<String, String> {
         symbol("GOAL")? as f64 + GRID_RPM,
     );
     let speed = panel(150.0, 340.0, (low, high));
-    let most = (incident.peak() / GRID_NM).ceil() * GRID_NM + GRID_NM;
-    let torque = panel(570.0, 290.0, (0.0, most));
+    let most = (incident.off.peak() / GRID_NM).ceil() * GRID_NM + GRID_NM;
+    let torque = panel(574.0, 304.0, (0.0, most));
 
     let mut svg = Svg::new(
         WIDTH,
         HEIGHT,
-        "A wrapped product, with the shadow stack off and on",
+        "A wrapped product, with the shadow stack off and on, and mended",
     );
     heading(&mut svg);
     axes(&mut svg, &speed, &torque);
@@ -83,7 +86,7 @@ fn axes(svg: &mut Svg, speed: &Panel, torque: &Panel) {
     ] {
         svg.styled((MARGIN, panel.top - 20.0), Anchor::Start, INK, BOLD, name);
     }
-    let below = (LEFT + PANEL_WIDTH / 2.0, torque.bottom() + 62.0);
+    let below = (LEFT + PANEL_WIDTH / 2.0, torque.bottom() + 66.0);
     svg.styled(below, Anchor::Middle, INK, BOLD, "Time (ms)");
 }
 
@@ -124,6 +127,8 @@ fn torque_curves(svg: &mut Svg, panel: &Panel, incident: &Incident) {
     svg.curve("on-torque", &on, GREEN, WIDE);
     let off = points(panel, &incident.off, |sample| sample.command);
     svg.curve("off-torque", &off, VERMILION, NARROW);
+    let mended = points(panel, &incident.mended, |sample| sample.command);
+    svg.curve("mended-torque", &mended, INDIGO, BROKEN);
 }
 
 fn speed_labels(svg: &mut Svg, panel: &Panel, incident: &Incident) {
@@ -134,19 +139,8 @@ fn speed_labels(svg: &mut Svg, panel: &Panel, incident: &Incident) {
         .map_or(panel.y.1, |sample| sample.reference);
     let (x, y) = (panel.at_x(incident.stray.ms) + 22.0, panel.at_y(goal));
     svg.text((x, y - 12.0), Anchor::Start, GREY, "set point");
-    svg.styled(
-        (x, y + 44.0),
-        Anchor::Start,
-        BLUE,
-        BOLD,
-        "Shadow stack off:",
-    );
-    svg.text(
-        (x, y + 44.0 + LINE),
-        Anchor::Start,
-        BLUE,
-        "the speed that was drawn, smooth",
-    );
+    let lines = ["Shadow stack off:", "the speed that was drawn,", "smooth"];
+    label(svg, (x, y + 36.0), BLUE, &lines);
 }
 
 fn torque_labels(svg: &mut Svg, panel: &Panel, incident: &Incident) -> Result<(), String> {
@@ -159,18 +153,31 @@ fn torque_labels(svg: &mut Svg, panel: &Panel, incident: &Incident) -> Result<()
     );
 
     let lasts = incident.kick().count() as f64 * step_ms()?;
-    let (x, y) = (
-        panel.at_x(incident.stray.ms + lasts) + 24.0,
-        panel.at_y(incident.peak()) + 12.0,
-    );
+    let x = panel.at_x(incident.stray.ms + lasts) + 24.0;
     let kick = format!(
         "Shadow stack off: up to {:.0} Nm for {lasts} ms, a kick",
-        incident.peak()
+        incident.off.peak()
     );
-    svg.styled((x, y), Anchor::Start, VERMILION, BOLD, &kick);
     let why = "the return skipped the limiter: this is what the drive really got";
-    svg.text((x, y + LINE), Anchor::Start, VERMILION, why);
+    let high = panel.at_y(incident.off.peak()) + 12.0;
+    label(svg, (x, high), VERMILION, &[kick.as_str(), why]);
+    let lines = [
+        "Mended, shadow stack on:",
+        "its product saturates,",
+        "and it runs to its end",
+    ];
+    let low = panel.at_y(incident.limit) + 34.0;
+    label(svg, (x, low), INDIGO, &lines);
     Ok(())
+}
+
+/// Lines of text below each other, the first one bold.
+fn label(svg: &mut Svg, (x, y): (f64, f64), colour: &str, lines: &[impl AsRef<str>]) {
+    for (below, line) in (0u8..).zip(lines) {
+        let weight = if below == 0 { BOLD } else { "" };
+        let at = (x, y + f64::from(below) * LINE);
+        svg.styled(at, Anchor::Start, colour, weight, line.as_ref());
+    }
 }
 
 /// The moment of the trap: a line down from the speed curve, and through the torque's panel.
@@ -203,14 +210,14 @@ fn end_of_shadow_stack(
     svg.line((x - 5.0, y + 5.0), (x + 5.0, y - 5.0), "#FFFFFF", round);
     let small = format!("font-size=\"{SMALL}\" {BOLD}");
     for (above, label) in [(20.0 + LINE, "Shadow stack"), (20.0, "on: stops here")] {
-        svg.styled((LEFT + 8.0, y - above), Anchor::Start, GREEN, &small, label);
+        svg.styled((LEFT + 6.0, y - above), Anchor::Start, GREEN, &small, label);
     }
     Ok(())
 }
 
 /// What the trap says, in a box below the speed curve, with a line to the mark.
 fn callout(svg: &mut Svg, panel: &Panel, incident: &Incident) -> Result<(), String> {
-    let (left, top, width, height) = (470.0, panel.bottom() - 118.0, 680.0, 106.0);
+    let (left, top, width, height) = (546.0, panel.bottom() - 146.0, 532.0, 136.0);
     let mark = (
         panel.at_x(incident.trap_ms()?) + 15.0,
         panel.at_y(incident.last()?.speed),
@@ -222,15 +229,12 @@ fn callout(svg: &mut Svg, panel: &Panel, incident: &Incident) -> Result<(), Stri
     ));
     let (cause, tval, pc) = incident.on.trap();
     let (used, pushed) = (incident.used(), incident.pushed()?);
-    let (x, y) = (left + 20.0, top + 33.0);
-    let title = format!("Shadow stack on: trap at {} ms", incident.trap_ms()?);
-    svg.styled((x, y), Anchor::Start, INK, BOLD, &title);
-    let mismatch = format!("return address {used:#x} does not match the pushed {pushed:#x}");
-    svg.text((x, y + LINE), Anchor::Start, INK, &mismatch);
-    let place = format!(
-        "cause {cause}, tval {tval}, at {}: the kick is never sent",
-        place(pc)
-    );
-    svg.text((x, y + 2.0 * LINE), Anchor::Start, INK, &place);
+    let lines = [
+        format!("Shadow stack on: trap at {} ms", incident.trap_ms()?),
+        format!("return address {used:#x} does not match"),
+        format!("the pushed {pushed:#x}: the kick is never sent"),
+        format!("cause {cause}, tval {tval}, at {}", place(pc)),
+    ];
+    label(svg, (left + 18.0, top + 34.0), INK, &lines);
     Ok(())
 }

@@ -4,12 +4,13 @@ use crate::image::{place, symbol};
 use crate::incident::Incident;
 use crate::outcome::{newton_metres, step_ms};
 
-/// The story: what went wrong, and what came of it with the shadow stack off and on.
+/// The story: what went wrong, what came of it with the shadow stack off and on, and what the mended controller does.
 pub fn of(incident: &Incident) -> Result<String, String> {
     Ok([
         what_went_wrong(incident)?,
         shadow_off(incident),
         shadow_on(incident)?,
+        mended(incident),
     ]
     .join("\n"))
 }
@@ -52,7 +53,7 @@ fn shadow_off(incident: &Incident) -> String {
          \x20 from one sample to the next it moves by {:.0} rpm at most.\n",
         stray.landed,
         incident.kick().count(),
-        incident.peak(),
+        incident.off.peak(),
         incident.limit,
         incident.off.samples.len(),
         incident.off.instructions,
@@ -78,4 +79,11 @@ fn shadow_on(incident: &Incident) -> Result<String, String> {
         incident.pushed()?,
         incident.pushed_at(),
     ))
+}
+
+fn mended(incident: &Incident) -> String {
+    format!(
+        "Shadow stack on, mended so that the product saturates: runs through, the drive gets {:.1} Nm at most.\n",
+        incident.mended.peak()
+    )
 }

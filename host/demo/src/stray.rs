@@ -1,7 +1,7 @@
 //! The stray store, watched step by step: which product wrapped, which counter it chose, what lay there, and
 //! where the function then returned to. Everything is read from the hart at the places that torque.s names.
 
-use crate::image::symbol;
+use crate::image::{symbol, TORQUE};
 use crate::layout::{self, Shadow};
 use crate::outcome;
 use sporhulma::{word, Hart};
@@ -64,8 +64,8 @@ impl Stray {
     /// returned through an address that is not the one it was called with.
     pub fn find() -> Result<Stray, String> {
         let places = Places::find()?;
-        let (mut hart, mut memory, map) =
-            (layout::hart(Shadow::Off)?, layout::memory(), layout::map());
+        let (mut hart, mut memory) = (layout::hart(Shadow::Off)?, layout::memory(TORQUE));
+        let map = layout::map();
         let mut seen = Stray::default();
         for _ in 0..MOST {
             let pc = hart.rest[word::PC];

@@ -1,8 +1,11 @@
-//! The two runs show the incident: wrapped product, stray store, and what the shadow stack makes of it.
+//! The runs show the incident: wrapped product, stray store, what the shadow stack makes of it, and the controller
+//! mended.
 
-use demo::image::symbol;
+use demo::image::{symbol, MENDED, TORQUE};
 use demo::incident::Incident;
-use demo::layout;
+use demo::layout::{self, Shadow};
+use demo::outcome::Outcome;
+use sporhulma::word;
 
 fn incident() -> Incident {
     Incident::happen().unwrap()
@@ -75,7 +78,7 @@ fn off_gives_the_drive_an_unlimited_torque() {
     assert!(over.len() > 1);
     assert_eq!(over[0].ms, incident.stray.ms);
     assert!(over.iter().all(|sample| sample.command == sample.demand));
-    assert!(incident.peak() > 2.0 * incident.limit);
+    assert!(incident.off.peak() > 2.0 * incident.limit);
     // All other samples are limited: it is the stray return and nothing else that lets them through.
     let rest = incident
         .off
@@ -114,4 +117,84 @@ fn on_is_the_same_up_to_the_trap_and_never_over_the_limit() {
     let on = &incident.on.samples;
     assert_eq!(on[..], incident.off.samples[..on.len()]);
     assert!(on.len() > 1 && on.iter().all(|sample| sample.command <= incident.limit));
+}
+
+#[test]
+fn mended_is_the_same_image_up_to_its_product() {
+    let product = (value("mul16") - value("CODE")) as usize;
+    assert_eq!(TORQUE[..product], MENDED[..product]);
+    // mul a0,a0,a1; min a0,a0,t0; max a0,a0,t0
+    for word in [0x02B5_0533_u32, 0x0A55_4533, 0x0A55_6533] {
+        let has = |image: &[u8]| image.chunks(4).any(|bytes| bytes == word.to_le_bytes());
+        assert!(has(MENDED) && !has(TORQUE), "{word:#x}");
+    }
+}
+
+/// What an image's mul16 gives, run alone: it returns to `finish`, whose ecall is the first trap.
+fn product(image: &[u8], a0: i64, a1: i64) -> i64 {
+    let (mut hart, mut memory) = (layout::hart(Shadow::On).unwrap(), layout::memory(image));
+    hart.rest[word::PC] = value("mul16");
+    (hart.x[1], hart.x[10], hart.x[11]) = (value("finish"), a0 as u64, a1 as u64);
+    let answer = sporhulma::run(&mut hart, &mut memory, &layout::map(), 1000);
+    assert!(answer.refusal == 0 && answer.trapped);
+    assert_eq!(hart.rest[word::MEPC], value("finish"));
+    hart.x[10] as i64
+}
+
+#[test]
+fn mended_saturates_where_the_product_wrapped() {
+    for (speed, torque) in [
+        (156, 279),
+        (156, -279),
+        (-156, 279),
+        (187, 120),
+        (3, -4),
+        (0, 1),
+    ] {
+        let full: i64 = speed * torque;
+        assert_eq!(product(TORQUE, speed, torque), i64::from(full as i16));
+        let held = full.clamp(i16::MIN.into(), i16::MAX.into());
+        assert_eq!(product(MENDED, speed, torque), held);
+    }
+}
+
+#[test]
+fn mended_runs_to_its_ecall_with_the_shadow_stack_on() {
+    let mended = incident().mended;
+    assert_eq!(mended.trap(), (8, 0, value("finish")));
+    assert_eq!(mended.samples.len() as u64, value("STEPS"));
+    // What was pushed is popped, and the first push, run_drive's return address, still lies there.
+    let top = value("SHADOW_TOP");
+    assert_eq!(mended.hart.rest[word::SSP], top);
+    let first = layout::bytes(&mended.memory, top - 8).unwrap();
+    assert_eq!(u64::from_le_bytes(first), value("finish"));
+}
+
+#[test]
+fn mended_is_the_same_up_to_the_jump_and_then_limited_all_the_way() {
+    let incident = incident();
+    let (mended, on) = (&incident.mended.samples, &incident.on.samples);
+    assert_eq!(mended[..on.len()], on[..]);
+    // It wants as much as the other did, and the drive never gets it.
+    assert_eq!(mended[on.len()].demand, incident.off.peak());
+    assert!(mended
+        .iter()
+        .all(|sample| sample.command == sample.demand.min(incident.limit)));
+    assert_eq!(incident.mended.peak(), incident.limit);
+}
+
+#[test]
+fn mended_counts_every_step_in_the_table_and_the_large_ones_in_its_last_class() {
+    let incident = incident();
+    let counters = |outcome: &Outcome| -> Vec<u64> {
+        let counter = |class| layout::bytes(&outcome.memory, incident.stray.table + 4 * class);
+        (0..value("CLASSES"))
+            .map(|class| u32::from_le_bytes(counter(class).unwrap()).into())
+            .collect()
+    };
+    let all = value("STEPS") * value("PERIODS");
+    let (off, mended) = (counters(&incident.off), counters(&incident.mended));
+    assert!(off.iter().sum::<u64>() < all);
+    assert_eq!(mended.iter().sum::<u64>(), all);
+    assert!(mended.last() > off.last());
 }

@@ -58,7 +58,7 @@ fn the_story_has_the_numbers_of_the_runs() {
         format!("turns {:#x} ({})", stray.pushed, place(stray.pushed)),
         format!("into {:#x} ({})", stray.stored, place(stray.stored)),
         format!("the return goes to {:#x} ", stray.landed),
-        format!("up to {:.1} Nm", incident.peak()),
+        format!("up to {:.1} Nm", incident.off.peak()),
         format!(
             "cause 18 (software check), tval 3 (shadow stack),\n  at {pc:#x} ({})",
             place(pc)
@@ -68,6 +68,15 @@ fn the_story_has_the_numbers_of_the_runs() {
     ] {
         assert!(story.contains(&wanted), "no '{wanted}' in:\n{story}");
     }
+}
+
+#[test]
+fn the_story_says_in_one_line_that_the_mended_controller_runs_through() {
+    let folder = Folder::new("mended");
+    let story = run(&folder.0.join("torque.svg")).unwrap();
+    let line = "Shadow stack on, mended so that the product saturates: \
+                runs through, the drive gets 60.0 Nm at most.";
+    assert!(story.lines().any(|said| said == line), "{story}");
 }
 
 #[test]
@@ -131,7 +140,7 @@ fn points(svg: &str, id: &str) -> usize {
 }
 
 #[test]
-fn the_picture_has_both_runs_and_the_trap() {
+fn the_picture_has_the_runs_and_the_trap() {
     let svg = picture(&Folder::new("curves"));
     let incident = Incident::happen().unwrap();
     for curve in ["off-speed", "off-torque"] {
@@ -140,13 +149,17 @@ fn the_picture_has_both_runs_and_the_trap() {
     for curve in ["on-speed", "on-torque"] {
         assert_eq!(points(&svg, curve), incident.on.samples.len());
     }
+    let mended = incident.mended.samples.len();
+    assert_eq!(points(&svg, "mended-torque"), mended);
     let (used, pushed) = (incident.used(), incident.pushed().unwrap());
     for text in [
         format!(
             ">Shadow stack on: trap at {} ms<",
             incident.trap_ms().unwrap()
         ),
-        format!(">return address {used:#x} does not match the pushed {pushed:#x}<"),
+        format!(">return address {used:#x} does not match<"),
+        format!(">the pushed {pushed:#x}: the kick is never sent<"),
+        ">Mended, shadow stack on:<".into(),
         ">Speed (rpm)<".into(),
         ">Torque sent to the drive (Nm)<".into(),
         ">Time (ms)<".into(),

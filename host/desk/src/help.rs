@@ -86,8 +86,8 @@ desk run takes --frames and adds the same to its report, by the hart at the star
 const DEMO: &str = "\
 desk demo [options]
 
-Runs the torque controller of examples/torque twice, with the shadow stack off and on, says what
-happened and draws both curves.
+Runs the torque controller of examples/torque with the shadow stack off and on, and mended with it
+on, says what happened and draws the curves.
 
 ";
 

@@ -1,9 +1,9 @@
-//! The demo's image: its source, assembled again by GNU as, must give the committed bytes.
+//! The demo's two images: their sources, assembled again by GNU as, must give the committed bytes.
 
 use crate::report::Report;
 use std::process::Command;
 
-/// The script that builds the image; with `--check` it writes nothing and says whether the
+/// The script that builds the images; with `--check` it writes nothing and says whether the
 /// committed files are what it would build.
 const BUILD: &str = "examples/torque/build";
 

@@ -29,7 +29,7 @@ COMPARISON, all of them one after the other if none is given:
   objdump   the text of many words, beside GNU objdump's
   as        GNU as, reading that text, gives the word back
   qemu      random programs, step by step beside QEMU's riscv64 system emulator
-  image     examples/torque, assembled again, is the committed image
+  image     examples/torque, assembled again, gives the committed images
 
 OPTION:
   --seed S       where the random words and programs start from (default 1)
