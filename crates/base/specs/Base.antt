@@ -142,20 +142,10 @@ opImm32s f i =
 unfoldable pub opImm32Of : Fields → ℕ → Instruction
 opImm32Of f i = look (f .funct3) (opImm32s f i)
 
--- OP: ADD, SUB, SLL, SLT, SLTU, XOR, SRL, SRA, OR, AND
-abbrev pub ops : Fields → Table Instruction
-ops f =
-    0b0000000_000 ⇒ Op Add (f .rd) (f .rs1) (f .rs2)
-    ¦ 0b0100000_000 ⇒ Op Sub (f .rd) (f .rs1) (f .rs2)
-    ¦ 0b0000000_001 ⇒ Op Sll (f .rd) (f .rs1) (f .rs2)
-    ¦ 0b0000000_010 ⇒ Op Slt (f .rd) (f .rs1) (f .rs2)
-    ¦ 0b0000000_011 ⇒ Op Sltu (f .rd) (f .rs1) (f .rs2)
-    ¦ 0b0000000_100 ⇒ Op Xor (f .rd) (f .rs1) (f .rs2)
-    ¦ 0b0000000_101 ⇒ Op Srl (f .rd) (f .rs1) (f .rs2)
-    ¦ 0b0100000_101 ⇒ Op Sra (f .rd) (f .rs1) (f .rs2)
-    ¦ 0b0000000_110 ⇒ Op Or (f .rd) (f .rs1) (f .rs2)
-    ¦ 0b0000000_111 ⇒ Op And (f .rd) (f .rs1) (f .rs2)
-    ¦ 0b0000001_000 ⇒ Op Mul (f .rd) (f .rs1) (f .rs2)
+-- MUL, MULH, MULHSU, MULHU, DIV, DIVU, REM, REMU of M; MIN, MINU, MAX, MAXU of Zbb
+abbrev pub extensions : Fields → Table Instruction
+extensions f =
+    0b0000001_000 ⇒ Op Mul (f .rd) (f .rs1) (f .rs2)
     ¦ 0b0000001_001 ⇒ Op Mulh (f .rd) (f .rs1) (f .rs2)
     ¦ 0b0000001_010 ⇒ Op Mulhsu (f .rd) (f .rs1) (f .rs2)
     ¦ 0b0000001_011 ⇒ Op Mulhu (f .rd) (f .rs1) (f .rs2)
@@ -169,8 +159,39 @@ ops f =
     ¦ 0b0000101_111 ⇒ Op Maxu (f .rd) (f .rs1) (f .rs2)
     ¦ otherwise Illegal
 
+unfoldable pub extensionOf : Fields → Instruction
+extensionOf f = look (functs f) (extensions f)
+
+-- OP: ADD, SUB, SLL, SLT, SLTU, XOR, SRL, SRA, OR, AND
+abbrev pub ops : Fields → Table Instruction
+ops f =
+    0b0000000_000 ⇒ Op Add (f .rd) (f .rs1) (f .rs2)
+    ¦ 0b0100000_000 ⇒ Op Sub (f .rd) (f .rs1) (f .rs2)
+    ¦ 0b0000000_001 ⇒ Op Sll (f .rd) (f .rs1) (f .rs2)
+    ¦ 0b0000000_010 ⇒ Op Slt (f .rd) (f .rs1) (f .rs2)
+    ¦ 0b0000000_011 ⇒ Op Sltu (f .rd) (f .rs1) (f .rs2)
+    ¦ 0b0000000_100 ⇒ Op Xor (f .rd) (f .rs1) (f .rs2)
+    ¦ 0b0000000_101 ⇒ Op Srl (f .rd) (f .rs1) (f .rs2)
+    ¦ 0b0100000_101 ⇒ Op Sra (f .rd) (f .rs1) (f .rs2)
+    ¦ 0b0000000_110 ⇒ Op Or (f .rd) (f .rs1) (f .rs2)
+    ¦ 0b0000000_111 ⇒ Op And (f .rd) (f .rs1) (f .rs2)
+    ¦ otherwise (extensionOf f)
+
 unfoldable pub opOf : Fields → Instruction
 opOf f = look (functs f) (ops f)
+
+-- MULW, DIVW, DIVUW, REMW, REMUW
+abbrev pub extension32s : Fields → Table Instruction
+extension32s f =
+    0b0000001_000 ⇒ Op32 Mulw (f .rd) (f .rs1) (f .rs2)
+    ¦ 0b0000001_100 ⇒ Op32 Divw (f .rd) (f .rs1) (f .rs2)
+    ¦ 0b0000001_101 ⇒ Op32 Divuw (f .rd) (f .rs1) (f .rs2)
+    ¦ 0b0000001_110 ⇒ Op32 Remw (f .rd) (f .rs1) (f .rs2)
+    ¦ 0b0000001_111 ⇒ Op32 Remuw (f .rd) (f .rs1) (f .rs2)
+    ¦ otherwise Illegal
+
+unfoldable pub extension32Of : Fields → Instruction
+extension32Of f = look (functs f) (extension32s f)
 
 -- OP-32: ADDW, SUBW, SLLW, SRLW, SRAW
 abbrev pub op32s : Fields → Table Instruction
@@ -180,12 +201,7 @@ op32s f =
     ¦ 0b0000000_001 ⇒ Op32 Sllw (f .rd) (f .rs1) (f .rs2)
     ¦ 0b0000000_101 ⇒ Op32 Srlw (f .rd) (f .rs1) (f .rs2)
     ¦ 0b0100000_101 ⇒ Op32 Sraw (f .rd) (f .rs1) (f .rs2)
-    ¦ 0b0000001_000 ⇒ Op32 Mulw (f .rd) (f .rs1) (f .rs2)
-    ¦ 0b0000001_100 ⇒ Op32 Divw (f .rd) (f .rs1) (f .rs2)
-    ¦ 0b0000001_101 ⇒ Op32 Divuw (f .rd) (f .rs1) (f .rs2)
-    ¦ 0b0000001_110 ⇒ Op32 Remw (f .rd) (f .rs1) (f .rs2)
-    ¦ 0b0000001_111 ⇒ Op32 Remuw (f .rd) (f .rs1) (f .rs2)
-    ¦ otherwise Illegal
+    ¦ otherwise (extension32Of f)
 
 unfoldable pub op32Of : Fields → Instruction
 op32Of f = look (functs f) (op32s f)

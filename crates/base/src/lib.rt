@@ -8,7 +8,7 @@ use isa::Width;
 use isa::WordOperation;
 use word::field::Fields;
 ghost use mathlib.Core.Path.{_≡_};
-ghost use Rattle.base.specs.Base.{jalrOf, branchOf, loadOf, storeOf, countOf, countWordOf, shiftOf, opImmOf, wordShiftOf, opImm32Of, opOf, op32Of, miscMemOf};
+ghost use Rattle.base.specs.Base.{jalrOf, branchOf, loadOf, storeOf, countOf, countWordOf, shiftOf, opImmOf, wordShiftOf, opImm32Of, extensionOf, opOf, extension32Of, op32Of, miscMemOf};
 
 pub fn jalr(f: Fields, offset: u64) -> Instruction
     ensures { λ r. ⌜ r ≡ jalrOf f offset ⌝ }
@@ -139,20 +139,11 @@ pub fn op_imm_32(f: Fields, imm: u64) -> Instruction
     }
 }
 
-pub fn op(f: Fields) -> Instruction
-    ensures { λ r. ⌜ r ≡ opOf f ⌝ }
+// M, and the minimum and maximum of Zbb.
+fn extension(f: Fields) -> Instruction
+    ensures { λ r. ⌜ r ≡ extensionOf f ⌝ }
 {
     match f.funct7 as u32 * 8 + f.funct3 as u32 {
-        0b0000000_000 => Instruction::Op(Operation::Add, f.rd, f.rs1, f.rs2),
-        0b0100000_000 => Instruction::Op(Operation::Sub, f.rd, f.rs1, f.rs2),
-        0b0000000_001 => Instruction::Op(Operation::Sll, f.rd, f.rs1, f.rs2),
-        0b0000000_010 => Instruction::Op(Operation::Slt, f.rd, f.rs1, f.rs2),
-        0b0000000_011 => Instruction::Op(Operation::Sltu, f.rd, f.rs1, f.rs2),
-        0b0000000_100 => Instruction::Op(Operation::Xor, f.rd, f.rs1, f.rs2),
-        0b0000000_101 => Instruction::Op(Operation::Srl, f.rd, f.rs1, f.rs2),
-        0b0100000_101 => Instruction::Op(Operation::Sra, f.rd, f.rs1, f.rs2),
-        0b0000000_110 => Instruction::Op(Operation::Or, f.rd, f.rs1, f.rs2),
-        0b0000000_111 => Instruction::Op(Operation::And, f.rd, f.rs1, f.rs2),
         0b0000001_000 => Instruction::Op(Operation::Mul, f.rd, f.rs1, f.rs2),
         0b0000001_001 => Instruction::Op(Operation::Mulh, f.rd, f.rs1, f.rs2),
         0b0000001_010 => Instruction::Op(Operation::Mulhsu, f.rd, f.rs1, f.rs2),
@@ -169,6 +160,38 @@ pub fn op(f: Fields) -> Instruction
     }
 }
 
+pub fn op(f: Fields) -> Instruction
+    ensures { λ r. ⌜ r ≡ opOf f ⌝ }
+{
+    match f.funct7 as u32 * 8 + f.funct3 as u32 {
+        0b0000000_000 => Instruction::Op(Operation::Add, f.rd, f.rs1, f.rs2),
+        0b0100000_000 => Instruction::Op(Operation::Sub, f.rd, f.rs1, f.rs2),
+        0b0000000_001 => Instruction::Op(Operation::Sll, f.rd, f.rs1, f.rs2),
+        0b0000000_010 => Instruction::Op(Operation::Slt, f.rd, f.rs1, f.rs2),
+        0b0000000_011 => Instruction::Op(Operation::Sltu, f.rd, f.rs1, f.rs2),
+        0b0000000_100 => Instruction::Op(Operation::Xor, f.rd, f.rs1, f.rs2),
+        0b0000000_101 => Instruction::Op(Operation::Srl, f.rd, f.rs1, f.rs2),
+        0b0100000_101 => Instruction::Op(Operation::Sra, f.rd, f.rs1, f.rs2),
+        0b0000000_110 => Instruction::Op(Operation::Or, f.rd, f.rs1, f.rs2),
+        0b0000000_111 => Instruction::Op(Operation::And, f.rd, f.rs1, f.rs2),
+        _ => extension(f),
+    }
+}
+
+// M's word forms.
+fn extension_32(f: Fields) -> Instruction
+    ensures { λ r. ⌜ r ≡ extension32Of f ⌝ }
+{
+    match f.funct7 as u32 * 8 + f.funct3 as u32 {
+        0b0000001_000 => Instruction::Op32(WordOperation::Mulw, f.rd, f.rs1, f.rs2),
+        0b0000001_100 => Instruction::Op32(WordOperation::Divw, f.rd, f.rs1, f.rs2),
+        0b0000001_101 => Instruction::Op32(WordOperation::Divuw, f.rd, f.rs1, f.rs2),
+        0b0000001_110 => Instruction::Op32(WordOperation::Remw, f.rd, f.rs1, f.rs2),
+        0b0000001_111 => Instruction::Op32(WordOperation::Remuw, f.rd, f.rs1, f.rs2),
+        _ => Instruction::Illegal,
+    }
+}
+
 pub fn op_32(f: Fields) -> Instruction
     ensures { λ r. ⌜ r ≡ op32Of f ⌝ }
 {
@@ -178,12 +201,7 @@ pub fn op_32(f: Fields) -> Instruction
         0b0000000_001 => Instruction::Op32(WordOperation::Sllw, f.rd, f.rs1, f.rs2),
         0b0000000_101 => Instruction::Op32(WordOperation::Srlw, f.rd, f.rs1, f.rs2),
         0b0100000_101 => Instruction::Op32(WordOperation::Sraw, f.rd, f.rs1, f.rs2),
-        0b0000001_000 => Instruction::Op32(WordOperation::Mulw, f.rd, f.rs1, f.rs2),
-        0b0000001_100 => Instruction::Op32(WordOperation::Divw, f.rd, f.rs1, f.rs2),
-        0b0000001_101 => Instruction::Op32(WordOperation::Divuw, f.rd, f.rs1, f.rs2),
-        0b0000001_110 => Instruction::Op32(WordOperation::Remw, f.rd, f.rs1, f.rs2),
-        0b0000001_111 => Instruction::Op32(WordOperation::Remuw, f.rd, f.rs1, f.rs2),
-        _ => Instruction::Illegal,
+        _ => extension_32(f),
     }
 }
 

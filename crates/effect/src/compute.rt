@@ -14,7 +14,7 @@ ghost use mathlib.Core.Path.{_≡_};
 ghost use Rattle.effect.specs.Compute.{oneOf, operationOf, wordOperationOf, conditionOf};
 
 // 1 where a test holds, else 0.
-fn one(b: bool) -> u64
+pub fn one(b: bool) -> u64
     ensures { λ r. ⌜ r ≡ oneOf b ⌝ }
 {
     if b {

@@ -1,3 +1,4 @@
 -- The laws of the quick way that belong to no one function.
 pub mod Ways
 pub mod Parts
+pub mod Values

@@ -7,13 +7,14 @@ use mathlib.Core.List.{List}
 use mathlib.Core.Path.{_≡_}
 use Prim.Native.Nat.{ℕ}
 use lib.ListN.{set}
+use Rattle.word.specs.declared.field.Fields.{Fields}
 use Rattle.isa.specs.declared.Instruction.{Instruction}
 use Rattle.transfer.specs.Commit.{memoryOf}
-use Rattle.effect.specs.Register.{putOf}
+use Rattle.effect.specs.Register.{regOf, putOf}
 use Rattle.effect.specs.declared.Setting.{Setting}
 use Rattle.effect.specs.declared.Effect.{Effect}
 use Rattle.effect.specs.declared.Effect.the-variants.{Write, Jump, Pad, Store, Push, Pop, Swap, Whole, Trap}
-use Rattle.meaning.specs.Instruction.{executeOf}
+use Rattle.meaning.specs.Instruction.{nextOf, executeOf}
 use Rattle.quick.specs.declared.Tried.{Tried}
 
 -- an effect was applied: pc', registers, words and memory are what it says. It never is a trap, nor a jump to a landing pad, nor
@@ -42,3 +43,10 @@ abbrev pub Computes : Instruction → (w : ℕ) → (x : List ℕ) → (pc : ℕ
 Computes i w x pc pad t x' =
     (ssp : ℕ) (s : Setting) (rest m map : List ℕ) → s .pad ≡ pad
     → Does (t .done) (executeOf i w x pc ssp s m map) x rest m (t .pc) x' rest m
+
+-- what an instruction with these fields writes, where its two registers hold a and b: if it is known, rd takes v and nothing else happens
+abbrev pub Writes : (known : Bool) → Instruction → Fields → (a b v : ℕ) → Type 0
+Writes true i f a b v =
+    (w pc ssp : ℕ) (x : List ℕ) (s : Setting) (m map : List ℕ) → regOf x (f .rs1) ≡ a → regOf x (f .rs2) ≡ b
+    → executeOf i w x pc ssp s m map ≡ Write (f .rd) v (nextOf pc)
+Writes false i f a b v = Unit {0}

@@ -3,6 +3,7 @@
 //
 // A branch writes 0 to register 0, as its effect says: so what is left of the registers is the effect's, whatever they held.
 use super::Tried;
+use super::value;
 use effect::compute;
 use effect::jump;
 use effect::register;
@@ -115,47 +116,43 @@ pub fn branch(w: u32, x: &mut [u64; 32], pc: u64) -> Tried
 pub fn op_imm(w: u32, x: &mut [u64; 32], pc: u64) -> Tried
     ensures { λ r. ⌜ ((pad : Bool) → Computes (opImmOf (fieldsOf w) (immI w)) w (now (x .entry)) pc pad r (now (x .exit))) ⌝ }
 {
-    match base::op_imm(field::split(w), immediate::imm_i(w)) {
-        Instruction::OpImm(o, rd, rs1, v) => {
-            let r = compute::operation(o, reg(x, rs1), v);
-            wrote(x, rd, r, sum::sum(pc, 4))
-        }
-        _ => undone(pc),
+    let f = field::split(w);
+    let v = value::op_imm(f, reg(x, f.rs1), immediate::imm_i(w));
+    if v.known {
+        return wrote(x, f.rd, v.value, sum::sum(pc, 4));
     }
+    undone(pc)
 }
 
 pub fn op_imm_32(w: u32, x: &mut [u64; 32], pc: u64) -> Tried
     ensures { λ r. ⌜ ((pad : Bool) → Computes (opImm32Of (fieldsOf w) (immI w)) w (now (x .entry)) pc pad r (now (x .exit))) ⌝ }
 {
-    match base::op_imm_32(field::split(w), immediate::imm_i(w)) {
-        Instruction::OpImm32(o, rd, rs1, v) => {
-            let r = compute::word_operation(o, reg(x, rs1), v);
-            wrote(x, rd, r, sum::sum(pc, 4))
-        }
-        _ => undone(pc),
+    let f = field::split(w);
+    let v = value::op_imm_32(f, reg(x, f.rs1), immediate::imm_i(w));
+    if v.known {
+        return wrote(x, f.rd, v.value, sum::sum(pc, 4));
     }
+    undone(pc)
 }
 
 pub fn op(w: u32, x: &mut [u64; 32], pc: u64) -> Tried
     ensures { λ r. ⌜ ((pad : Bool) → Computes (opOf (fieldsOf w)) w (now (x .entry)) pc pad r (now (x .exit))) ⌝ }
 {
-    match base::op(field::split(w)) {
-        Instruction::Op(o, rd, rs1, rs2) => {
-            let r = compute::operation(o, reg(x, rs1), reg(x, rs2));
-            wrote(x, rd, r, sum::sum(pc, 4))
-        }
-        _ => undone(pc),
+    let f = field::split(w);
+    let v = value::op(f, reg(x, f.rs1), reg(x, f.rs2));
+    if v.known {
+        return wrote(x, f.rd, v.value, sum::sum(pc, 4));
     }
+    undone(pc)
 }
 
 pub fn op_32(w: u32, x: &mut [u64; 32], pc: u64) -> Tried
     ensures { λ r. ⌜ ((pad : Bool) → Computes (op32Of (fieldsOf w)) w (now (x .entry)) pc pad r (now (x .exit))) ⌝ }
 {
-    match base::op_32(field::split(w)) {
-        Instruction::Op32(o, rd, rs1, rs2) => {
-            let r = compute::word_operation(o, reg(x, rs1), reg(x, rs2));
-            wrote(x, rd, r, sum::sum(pc, 4))
-        }
-        _ => undone(pc),
+    let f = field::split(w);
+    let v = value::op_32(f, reg(x, f.rs1), reg(x, f.rs2));
+    if v.known {
+        return wrote(x, f.rd, v.value, sum::sum(pc, 4));
     }
+    undone(pc)
 }

@@ -4,8 +4,10 @@
 //
 // Its own crate, since it is a second way to the same effects: the definitions are those of `execute`, and nothing here adds to them.
 
-// RV64I that touches the registers and pc alone.
+// What touches the registers and pc alone: RV64I, M, and what is taken from Zbb.
 mod compute;
+// What computing instructions write.
+mod value;
 // Loads, stores, push and pop-check.
 mod access;
 // The fetch, and the major opcodes.

@@ -1,19 +1,17 @@
--- `quick::compute::op_32` meets its contract: a register written, or no such instruction. Assumes nothing.
+-- `quick::compute::op_32` meets its contract: the register takes the value that its table tells, or there is no such instruction. Assumes nothing.
+use mathlib.Core.Path.{ap}
 use Rattle.base.specs.Base.{op32Of}
-use Rattle.meaning.specs.Instruction.{executeOf}
-use Rattle.quick.proofs.Ways.{read-fields, wrote-does, undone-does}
+use Rattle.quick.proofs.Values.{value-does}
+use Rattle.quick.proofs.Ways.{undone-does}
 use borrow.Author.Needs.{needs}
 use Rattle.quick.proofs.compute.op_32.Statement.{statement}
 use Rattle.quick.proofs.compute.op_32.Tie as tie
 
 returns : tie.Need-returns
-unfolding executeOf
 returns c =
-    let r = c .before .before .before in
-    let k = r .before .before .before .before .before .before in
-    let d = k .before .before in
-    let told = read-fields op32Of (d .before .split .ensures) (d .op-32 .ensures) (k .o .given .1) in
-    λ pad ssp s rest m map e. wrote-does _ _ _ _ _ _ (c .wrote .ensures) _ (rw (told, r .word-operation .ensures, r .before .reg2 .ensures, r .before .before .before .reg .ensures, c .before .sum .ensures)) rest m
+    λ pad.
+    value-does _ _ _ _ _ _ _ _ _ _ pad _ _ (ap op32Of (c .before .before .before .before .before .before .before .before .before .split .ensures))
+    (c .before .before .before .before .op-32 .ensures) (c .before .before .before .if1 .taken) (c .before .before .before .before .before .before .before .reg .ensures) (c .before .before .before .before .before .reg2 .ensures) (c .before .sum .ensures) (c .wrote .ensures)
 
 pub op-32-spec : {M : Type 1} → statement M
 op-32-spec =
@@ -21,12 +19,10 @@ op-32-spec =
     (tie.spec
     (λ c κs. search needs)
     (λ c κs. search needs)
-    (λ c. search needs)
-    (λ c κs. search needs)
-    (λ c κs. search needs)
     (λ c κs. search needs)
     (λ c κs. search needs)
     (λ c κs. search needs)
     (λ c κs. search needs)
     returns
+    (λ c κs. search needs)
     (λ c. λ pad ssp s rest m map e. undone-does _ _ (c .undone .ensures) _ _ rest m))

@@ -1,19 +1,16 @@
--- `quick::compute::op_imm` meets its contract: a register written, or no such instruction. Assumes nothing.
-use Rattle.base.specs.Base.{opImmOf}
-use Rattle.meaning.specs.Instruction.{executeOf}
-use Rattle.quick.proofs.Ways.{read, wrote-does, undone-does}
+-- `quick::compute::op_imm` meets its contract: the register takes the value that its table tells, or there is no such instruction. Assumes nothing.
+use mathlib.Core.Path.{refl}
+use Rattle.quick.proofs.Values.{value-does}
+use Rattle.quick.proofs.Ways.{undone-does}
 use borrow.Author.Needs.{needs}
 use Rattle.quick.proofs.compute.op_imm.Statement.{statement}
 use Rattle.quick.proofs.compute.op_imm.Tie as tie
 
 returns : tie.Need-returns
-unfolding executeOf
 returns c =
-    let r = c .before .before .before in
-    let k = r .before .before .before .before in
-    let d = k .before .before in
-    let told = read opImmOf (d .before .before .split .ensures) (d .before .imm-i .ensures) (d .op-imm .ensures) (k .o .given .1) in
-    λ pad ssp s rest m map e. wrote-does _ _ _ _ _ _ (c .wrote .ensures) _ (rw (told, r .operation .ensures, r .before .reg .ensures, c .before .sum .ensures)) rest m
+    λ pad.
+    value-does _ _ _ _ _ _ _ _ _ _ pad _ _ (rw (c .before .before .before .before .before .imm-i .ensures, c .before .before .before .before .before .before .before .before .split .ensures))
+    (c .before .before .before .before .op-imm .ensures _) (c .before .before .before .if1 .taken) (c .before .before .before .before .before .before .reg .ensures) refl (c .before .sum .ensures) (c .wrote .ensures)
 
 pub op-imm-spec : {M : Type 1} → statement M
 op-imm-spec =
@@ -22,11 +19,9 @@ op-imm-spec =
     (λ c κs. search needs)
     (λ c κs. search needs)
     (λ c κs. search needs)
-    (λ c. search needs)
-    (λ c κs. search needs)
-    (λ c κs. search needs)
     (λ c κs. search needs)
     (λ c κs. search needs)
     (λ c κs. search needs)
     returns
+    (λ c κs. search needs)
     (λ c. λ pad ssp s rest m map e. undone-does _ _ (c .undone .ensures) _ _ rest m))

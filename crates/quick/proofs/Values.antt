@@ -1,0 +1,48 @@
+-- What `value` tells of a word: a row's value, none, or what the next table tells; and the register that is written by it.
+-- Assumes nothing.
+use mathlib.Core.Bool.{Bool, true, false}
+use mathlib.Core.List.{List}
+use mathlib.Core.Path.{_≡_, refl, sym, ap, _∙_}
+use Prim.Native.Nat.{ℕ}
+use Rattle.word.specs.declared.field.Fields.{Fields}
+use Rattle.isa.specs.declared.Instruction.{Instruction}
+use Rattle.effect.specs.Register.{regOf, putOf}
+use Rattle.effect.specs.declared.Effect.{Effect}
+use Rattle.effect.specs.declared.Effect.the-variants.{Write}
+use Rattle.effect.specs.declared.Setting.{Setting}
+use Rattle.meaning.specs.Instruction.{nextOf, executeOf}
+use Rattle.quick.specs.Quick.{Does, Computes, Writes}
+use Rattle.quick.specs.declared.Tried.{Tried}
+use Rattle.quick.specs.declared.value.Value.{Value}
+use Rattle.quick.proofs.Ways.{wrote-does}
+
+-- a row of the table: its value
+pub row-told : (t : Value) (v : ℕ) → t ≡ record { known = true; value = v } → (i : Instruction) (f : Fields) (a b : ℕ)
+    → Writes true i f a b v → Writes (t .known) i f a b (t .value)
+row-told t v h i f a b w = rw h w
+
+-- no row
+pub none-told : (t : Value) → t ≡ record { known = false; value = 0 } → (i : Instruction) (f : Fields) (a b : ℕ)
+    → Writes (t .known) i f a b (t .value)
+none-told t h i f a b = rw h tt
+
+-- the next table, where this one says what it does
+pub next-told : (t : Value) (i j : Instruction) (f : Fields) (a b : ℕ) → j ≡ i → Writes (t .known) j f a b (t .value)
+    → Writes (t .known) i f a b (t .value)
+next-told t i j f a b h w = rw (← h) w
+
+-- known, it is written
+known-writes : (k : Bool) (i : Instruction) (f : Fields) (a b v : ℕ) → k ≡ true → Writes k i f a b v → Writes true i f a b v
+known-writes k i f a b v h w = rw h at w
+
+-- rd took the value: what the instruction of the word does
+pub value-does : (t : Tried) (v : Value) (i j : Instruction) (f : Fields) (a b next w pc : ℕ) (pad : Bool) (x x' : List ℕ) → i ≡ j
+    → Writes (v .known) i f a b (v .value) → v .known ≡ true → a ≡ regOf x (f .rs1) → b ≡ regOf x (f .rs2) → next ≡ nextOf pc
+    → (t ≡ record { done = true; pc = next }) × (x' ≡ putOf (f .rd) (v .value) x)
+    → Computes j w x pc pad t x'
+value-does t v i j f a b next w pc pad x x' same told known p q n done ssp s rest m map e =
+    let k : Writes true i f a b (v .value) = known-writes (v .known) i f a b (v .value) known told in
+    let effect : executeOf j w x pc ssp s m map ≡ Write (f .rd) (v .value) next =
+    ap (λ (d : Instruction). executeOf d w x pc ssp s m map) (sym same) ∙ k w pc ssp x s m map (sym p) (sym q)
+    ∙ ap (λ (d : ℕ). Write (f .rd) (v .value) d) (sym n) in
+    wrote-does t (f .rd) (v .value) next x x' done _ effect rest m
