@@ -54,14 +54,17 @@ pub const M: [Encoding; 13] = [
     two("remuw", OP_32, 7, 1),
 ];
 
-/// What the hart has of Zbb.
-pub const ZBB: [Encoding; 10] = [
+/// What the hart has of Zbb: the counts, and minimum and maximum.
+pub const COUNTS: [Encoding; 6] = [
     one("clz", OP_IMM, 1, 0x600),
     one("ctz", OP_IMM, 1, 0x601),
     one("cpop", OP_IMM, 1, 0x602),
     one("clzw", OP_IMM_32, 1, 0x600),
     one("ctzw", OP_IMM_32, 1, 0x601),
     one("cpopw", OP_IMM_32, 1, 0x602),
+];
+
+pub const MIN_MAX: [Encoding; 4] = [
     two("min", OP, 4, 5),
     two("minu", OP, 5, 5),
     two("max", OP, 6, 5),
@@ -126,12 +129,17 @@ impl Encoding {
     }
 }
 
-/// The instruction of request A3 that a word is.
-pub fn added(word: u32) -> Option<&'static Encoding> {
-    M.iter().chain(&ZBB).find(|encoding| encoding.is(word))
+/// The instructions that request A3 added.
+pub fn all() -> impl Iterator<Item = &'static Encoding> {
+    M.iter().chain(&COUNTS).chain(&MIN_MAX)
 }
 
-/// The instruction beside them that a word is, and that the hart does not have.
+/// The one of them that a word is.
+pub fn added(word: u32) -> Option<&'static Encoding> {
+    all().find(|encoding| encoding.is(word))
+}
+
+/// The one of those that the hart does not have.
 pub fn absent(word: u32) -> Option<&'static Encoding> {
     ABSENT.iter().find(|encoding| encoding.is(word))
 }
@@ -168,7 +176,7 @@ mod tests {
             0x0AC5_E533,
             0x0AC5_F533,
         ];
-        for (encoding, word) in M.iter().chain(&ZBB).zip(words) {
+        for (encoding, word) in all().zip(words) {
             assert_eq!(encoding.word(10, 11, 12), word, "{}", encoding.name);
             assert_eq!(added(word), Some(encoding));
             assert_eq!(absent(word), None);
@@ -222,7 +230,7 @@ mod tests {
 
     #[test]
     fn the_names_of_word_forms_end_with_w() {
-        for encoding in M.iter().chain(&ZBB) {
+        for encoding in all() {
             assert_eq!(encoding.of_words(), encoding.name.ends_with('w'));
         }
     }
