@@ -4,8 +4,9 @@
 use crate::maker::Maker;
 use crate::operands::{counted, operand};
 use crate::program::Program;
+use formats::corners::*;
 use formats::extensions::{Encoding, ABSENT, COUNTS, M, MIN_MAX};
-use formats::*;
+use formats::{i, OP_IMM};
 
 /// Of a hundred so many have operands that are drawn for them; the others have what the registers hold.
 const AIMED: u64 = 85;
@@ -52,31 +53,6 @@ pub fn absent(maker: &mut Maker) -> u32 {
     encoding.with(maker.random.word() as u32)
 }
 
-/// A number as a program makes it: an immediate, a shift of it (funct3) and the distance, 0 for no shift.
-type Shifted = (u64, u32, u64);
-
-const LEFT: u32 = 1;
-const RIGHT: u32 = 5;
-
-const ZERO: Shifted = (0, LEFT, 0);
-const ONE: Shifted = (1, LEFT, 0);
-const MINUS_ONE: Shifted = (u64::MAX, LEFT, 0);
-
-/// The corners of 64 bits; the last two are the least number and the greatest.
-const WHOLES: [Shifted; 5] = [ZERO, ONE, MINUS_ONE, (1, LEFT, 63), (u64::MAX, RIGHT, 1)];
-
-/// Those of 32 bits, and then 0 below ones, -1 and the least number below zeros.
-const HALVES: [Shifted; 8] = [
-    ZERO,
-    ONE,
-    MINUS_ONE,
-    (u64::MAX, LEFT, 31),
-    (u64::MAX, RIGHT, 33),
-    (u64::MAX, LEFT, 32),
-    (u64::MAX, RIGHT, 32),
-    (1, LEFT, 31),
-];
-
 impl Program<'_> {
     /// An instruction of request A3, mostly of sources that were just put at a corner.
     pub fn product(&mut self) {
@@ -86,45 +62,31 @@ impl Program<'_> {
             _ => self.random.pick(&MIN_MAX),
         };
         let (rs1, rs2) = (self.scratch(), self.scratch());
-        let corners: &[Shifted] = if encoding.of_words() {
-            &HALVES
+        let (corners, least): (&[Corner], _) = if encoding.of_words() {
+            (&HALVES, LEAST_HALF)
         } else {
-            &WHOLES
+            (&WHOLES, LEAST)
         };
         if self.random.chance(25) {
-            // Where division has its own corners: the least number by -1 or by 0.
+            // Where division has corners of its own: the least number by -1 or by 0.
             let divisor = self.random.pick(&[MINUS_ONE, ZERO]);
-            self.put(rs1, corners[3]);
-            self.put(rs2, divisor);
+            self.words.extend(least.words(rs1));
+            self.words.extend(divisor.words(rs2));
         } else {
-            for register in [rs1, rs2] {
-                self.put_any(register, corners);
-            }
+            self.put(rs1, corners);
+            self.put(rs2, corners);
         }
         let rd = self.scratch();
         self.words.push(encoding.word(rd, rs1, rs2));
     }
 
     /// Puts one of the corners into a register, sometimes another number, and sometimes leaves it.
-    fn put_any(&mut self, register: u32, corners: &[Shifted]) {
+    fn put(&mut self, register: u32, corners: &[Corner]) {
+        let any = i(OP_IMM, 0, register, 0, self.random.word());
         match self.random.below(8) {
             0 => {}
-            1 => {
-                let number = self.random.word();
-                self.put(register, (number, LEFT, 0));
-            }
-            _ => {
-                let corner = self.random.pick(corners);
-                self.put(register, corner);
-            }
-        }
-    }
-
-    fn put(&mut self, register: u32, (number, shift, distance): Shifted) {
-        self.words.push(i(OP_IMM, 0, register, 0, number));
-        if distance > 0 {
-            let shifted = i(OP_IMM, shift, register, register, distance);
-            self.words.push(shifted);
+            1 => self.words.push(any),
+            _ => self.words.extend(self.random.pick(corners).words(register)),
         }
     }
 }
