@@ -54,9 +54,9 @@ pub fn absent(maker: &mut Maker) -> u32 {
 }
 
 impl Program<'_> {
-    /// An instruction of request A3, mostly of sources that were just put at a corner.
-    pub fn product(&mut self) {
-        let encoding = match self.random.below(23) {
+    /// An instruction of M or Zbb, each as often as the others, mostly of sources that were just put at a corner.
+    pub fn extension(&mut self) {
+        let encoding = match self.random.below(13 + 6 + 4) {
             0..=12 => self.random.pick(&M),
             13..=18 => self.random.pick(&COUNTS),
             _ => self.random.pick(&MIN_MAX),
