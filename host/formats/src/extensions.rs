@@ -3,17 +3,21 @@
 
 use crate::{OP, OP_32, OP_IMM, OP_IMM_32};
 
-/// An instruction's name and the bits of its words that are fixed.
+type Name = &'static str;
+
+/// An instruction's extension, its name, and the bits of its words that are fixed.
 #[derive(Clone, Copy, PartialEq, Eq, Debug)]
 pub struct Encoding {
-    pub name: &'static str,
+    pub extension: Name,
+    pub name: Name,
     mask: u32,
     value: u32,
 }
 
 /// Format R with two sources.
-const fn two(name: &'static str, opcode: u32, funct3: u32, funct7: u32) -> Encoding {
+const fn two(extension: Name, name: Name, opcode: u32, funct3: u32, funct7: u32) -> Encoding {
     Encoding {
+        extension,
         name,
         mask: 0xFE00_707F,
         value: crate::r(opcode, funct3, funct7, 0, 0, 0),
@@ -21,8 +25,9 @@ const fn two(name: &'static str, opcode: u32, funct3: u32, funct7: u32) -> Encod
 }
 
 /// One source: funct7 and rs2, twelve bits, say what is done with it.
-const fn one(name: &'static str, opcode: u32, funct3: u32, funct12: u32) -> Encoding {
+const fn one(extension: Name, name: Name, opcode: u32, funct3: u32, funct12: u32) -> Encoding {
     Encoding {
+        extension,
         name,
         mask: 0xFFF0_707F,
         value: crate::r(opcode, funct3, funct12 >> 5, 0, 0, funct12 & 31),
@@ -30,8 +35,9 @@ const fn one(name: &'static str, opcode: u32, funct3: u32, funct12: u32) -> Enco
 }
 
 /// A source and a distance of six bits.
-const fn distance(name: &'static str, opcode: u32, funct3: u32, funct6: u32) -> Encoding {
+const fn distance(extension: Name, name: Name, opcode: u32, funct3: u32, funct6: u32) -> Encoding {
     Encoding {
+        extension,
         name,
         mask: 0xFC00_707F,
         value: crate::r(opcode, funct3, funct6 << 1, 0, 0, 0),
@@ -39,73 +45,73 @@ const fn distance(name: &'static str, opcode: u32, funct3: u32, funct6: u32) -> 
 }
 
 pub const M: [Encoding; 13] = [
-    two("mul", OP, 0, 1),
-    two("mulh", OP, 1, 1),
-    two("mulhsu", OP, 2, 1),
-    two("mulhu", OP, 3, 1),
-    two("div", OP, 4, 1),
-    two("divu", OP, 5, 1),
-    two("rem", OP, 6, 1),
-    two("remu", OP, 7, 1),
-    two("mulw", OP_32, 0, 1),
-    two("divw", OP_32, 4, 1),
-    two("divuw", OP_32, 5, 1),
-    two("remw", OP_32, 6, 1),
-    two("remuw", OP_32, 7, 1),
+    two("M", "mul", OP, 0, 1),
+    two("M", "mulh", OP, 1, 1),
+    two("M", "mulhsu", OP, 2, 1),
+    two("M", "mulhu", OP, 3, 1),
+    two("M", "div", OP, 4, 1),
+    two("M", "divu", OP, 5, 1),
+    two("M", "rem", OP, 6, 1),
+    two("M", "remu", OP, 7, 1),
+    two("M", "mulw", OP_32, 0, 1),
+    two("M", "divw", OP_32, 4, 1),
+    two("M", "divuw", OP_32, 5, 1),
+    two("M", "remw", OP_32, 6, 1),
+    two("M", "remuw", OP_32, 7, 1),
 ];
 
 /// What the hart has of Zbb: the counts, and minimum and maximum.
 pub const COUNTS: [Encoding; 6] = [
-    one("clz", OP_IMM, 1, 0x600),
-    one("ctz", OP_IMM, 1, 0x601),
-    one("cpop", OP_IMM, 1, 0x602),
-    one("clzw", OP_IMM_32, 1, 0x600),
-    one("ctzw", OP_IMM_32, 1, 0x601),
-    one("cpopw", OP_IMM_32, 1, 0x602),
+    one("Zbb", "clz", OP_IMM, 1, 0x600),
+    one("Zbb", "ctz", OP_IMM, 1, 0x601),
+    one("Zbb", "cpop", OP_IMM, 1, 0x602),
+    one("Zbb", "clzw", OP_IMM_32, 1, 0x600),
+    one("Zbb", "ctzw", OP_IMM_32, 1, 0x601),
+    one("Zbb", "cpopw", OP_IMM_32, 1, 0x602),
 ];
 
 pub const MIN_MAX: [Encoding; 4] = [
-    two("min", OP, 4, 5),
-    two("minu", OP, 5, 5),
-    two("max", OP, 6, 5),
-    two("maxu", OP, 7, 5),
+    two("Zbb", "min", OP, 4, 5),
+    two("Zbb", "minu", OP, 5, 5),
+    two("Zbb", "max", OP, 6, 5),
+    two("Zbb", "maxu", OP, 7, 5),
 ];
 
 /// What it does not have: the rest of Zbb, then Zba, Zbc and Zbs.
 pub const ABSENT: [Encoding; 33] = [
-    two("andn", OP, 7, 0x20),
-    two("orn", OP, 6, 0x20),
-    two("xnor", OP, 4, 0x20),
-    one("sext.b", OP_IMM, 1, 0x604),
-    one("sext.h", OP_IMM, 1, 0x605),
-    one("zext.h", OP_32, 4, 0x080),
-    one("orc.b", OP_IMM, 5, 0x287),
-    one("rev8", OP_IMM, 5, 0x6B8),
-    two("rol", OP, 1, 0x30),
-    two("ror", OP, 5, 0x30),
-    two("rolw", OP_32, 1, 0x30),
-    two("rorw", OP_32, 5, 0x30),
-    distance("rori", OP_IMM, 5, 0x18),
-    two("roriw", OP_IMM_32, 5, 0x30),
-    two("sh1add", OP, 2, 0x10),
-    two("sh2add", OP, 4, 0x10),
-    two("sh3add", OP, 6, 0x10),
-    two("add.uw", OP_32, 0, 0x04),
-    two("sh1add.uw", OP_32, 2, 0x10),
-    two("sh2add.uw", OP_32, 4, 0x10),
-    two("sh3add.uw", OP_32, 6, 0x10),
-    distance("slli.uw", OP_IMM_32, 1, 0x02),
-    two("clmul", OP, 1, 5),
-    two("clmulr", OP, 2, 5),
-    two("clmulh", OP, 3, 5),
-    two("bclr", OP, 1, 0x24),
-    two("bext", OP, 5, 0x24),
-    two("binv", OP, 1, 0x34),
-    two("bset", OP, 1, 0x14),
-    distance("bclri", OP_IMM, 1, 0x12),
-    distance("bexti", OP_IMM, 5, 0x12),
-    distance("binvi", OP_IMM, 1, 0x1A),
-    distance("bseti", OP_IMM, 1, 0x0A),
+    two("Zbb", "andn", OP, 7, 0x20),
+    two("Zbb", "orn", OP, 6, 0x20),
+    two("Zbb", "xnor", OP, 4, 0x20),
+    one("Zbb", "sext.b", OP_IMM, 1, 0x604),
+    one("Zbb", "sext.h", OP_IMM, 1, 0x605),
+    one("Zbb", "zext.h", OP_32, 4, 0x080),
+    one("Zbb", "orc.b", OP_IMM, 5, 0x287),
+    one("Zbb", "rev8", OP_IMM, 5, 0x6B8),
+    two("Zbb", "rol", OP, 1, 0x30),
+    two("Zbb", "ror", OP, 5, 0x30),
+    two("Zbb", "rolw", OP_32, 1, 0x30),
+    two("Zbb", "rorw", OP_32, 5, 0x30),
+    distance("Zbb", "rori", OP_IMM, 5, 0x18),
+    two("Zbb", "roriw", OP_IMM_32, 5, 0x30),
+    two("Zba", "sh1add", OP, 2, 0x10),
+    two("Zba", "sh2add", OP, 4, 0x10),
+    two("Zba", "sh3add", OP, 6, 0x10),
+    two("Zba", "add.uw", OP_32, 0, 0x04),
+    two("Zba", "sh1add.uw", OP_32, 2, 0x10),
+    two("Zba", "sh2add.uw", OP_32, 4, 0x10),
+    two("Zba", "sh3add.uw", OP_32, 6, 0x10),
+    distance("Zba", "slli.uw", OP_IMM_32, 1, 0x02),
+    two("Zbc", "clmul", OP, 1, 5),
+    two("Zbc", "clmulr", OP, 2, 5),
+    two("Zbc", "clmulh", OP, 3, 5),
+    two("Zbs", "bclr", OP, 1, 0x24),
+    two("Zbs", "bext", OP, 5, 0x24),
+    two("Zbs", "binv", OP, 1, 0x34),
+    two("Zbs", "bset", OP, 1, 0x14),
+    distance("Zbs", "bclri", OP_IMM, 1, 0x12),
+    distance("Zbs", "bexti", OP_IMM, 5, 0x12),
+    distance("Zbs", "binvi", OP_IMM, 1, 0x1A),
+    distance("Zbs", "bseti", OP_IMM, 1, 0x0A),
 ];
 
 impl Encoding {

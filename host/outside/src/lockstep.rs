@@ -14,7 +14,7 @@ use crate::program::{generate, Program, BASE};
 use crate::qemu::{self, Entry, Qemu, LOGGED};
 use crate::report::Report;
 use crate::side::{proved, second, Side};
-use formats::extensions::{added, M};
+use formats::extensions::added;
 use sporhulma::word::{MODE, MTVAL, PC, STVAL};
 use sporhulma::{Hart, REST};
 use std::ops::Range;
@@ -136,9 +136,8 @@ fn tally(report: &mut Report, side: &Side) {
     let word = side.word();
     let family = word.map_or(0, sporhulma::family) as usize;
     let name = match word.and_then(added) {
-        Some(encoding) if M.contains(encoding) => "extension M",
-        Some(_) => "extension Zbb",
-        None => FAMILIES.get(family).unwrap_or(&"other"),
+        Some(encoding) => format!("extension {}", encoding.extension),
+        None => FAMILIES.get(family).unwrap_or(&"other").to_string(),
     };
     report.count(format!("instructions: {name}"));
     report.count(format!(

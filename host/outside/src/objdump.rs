@@ -237,14 +237,14 @@ fn differ_in_csr(ours: &str, theirs: &str) -> bool {
 /// The extension of an instruction that GNU knows and the hart does not have; none if `name` is of
 /// no such extension.
 fn further(name: &str) -> Option<&'static str> {
+    if let Some(encoding) = ABSENT.iter().find(|encoding| encoding.name == name) {
+        return Some(encoding.extension);
+    }
     match name {
+        "zext.w" => Some("Zba"),
         "fence.i" => Some("Zifencei"),
         "wfi" | "sfence.vma" | "sfence.vm" | "uret" | "hret" | "dret" => {
             Some("privileged (wfi, sfence.vma, uret, dret)")
-        }
-        // `zext.w` is `add.uw` with x0.
-        _ if name == "zext.w" || ABSENT.iter().any(|absent| absent.name == name) => {
-            Some("Zba, the rest of Zbb, Zbc, Zbs")
         }
         _ if ["lr.", "sc.", "amo"]
             .iter()

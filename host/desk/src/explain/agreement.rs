@@ -4,11 +4,12 @@
 use super::{expected, Trap};
 use crate::map::{Entry, PageMap};
 use crate::state::State;
+use formats::extensions::{ABSENT, COUNTS, M, MIN_MAX};
 use sporhulma::{word, Hart};
 use std::collections::BTreeSet;
 
 /// Memories to try, and harts and maps with each: every kind of trap and every rule comes up often in so many.
-const MEMORIES: usize = 100;
+const MEMORIES: usize = 300;
 const HARTS: usize = 500;
 
 /// Marsaglia's xorshift: the same numbers in every run.
@@ -96,7 +97,8 @@ fn instruction(random: &mut Random) -> u32 {
     let csr = random.pick(&[
         0x011, 0x100, 0x105, 0x180, 0x300, 0x342, 0x747, 0xc00, 0x10b,
     ]);
-    match random.below(13) {
+    let added = [random.pick(&M), random.pick(&COUNTS), random.pick(&MIN_MAX)];
+    match random.below(15) {
         0 => random.pick(&[0xce10_4073, 0xce50_4073, 0xcdc0_c073, 0xcdc2_c073]),
         1 => random.pick(&[
             0x0000_0073,
@@ -111,6 +113,8 @@ fn instruction(random: &mut Random) -> u32 {
         4 => free & 0x00ff_ff80 | random.pick(&[0x03, 0x23]),
         5 => random.pick(&[0x0000_0017, 0x8000_0017, 0x0000_1017, 0x0000_2017]), // lpad
         6 => free,
+        7 => random.pick(&added).with(free),
+        8 => random.pick(&ABSENT).with(free),
         _ => free & !0x7f | opcode,
     }
 }
