@@ -1,11 +1,13 @@
 //! The steps of a call taken again one by one with the second simulator, for those who count what a call did.
 
-use crate::case::{Call, Case};
-use crate::reach::word_at;
+use crate::case::{Call, Case, BASE, PAGE};
+use crate::named::{leaf, place};
 use crate::simulator::{Second, Simulator};
+use crate::state::View;
+use sporhulma::word::PC;
 use sporhulma::{Answer, Hart};
 
-/// One of the steps: the hart before it and after it, and the word, where the map leads to one.
+/// One of the steps: the hart before it and after it, and its word, where there is one at pc.
 pub struct Step<'a> {
     pub before: &'a Hart,
     pub word: Option<u32>,
@@ -35,4 +37,17 @@ pub fn take_again(case: &Case, steps: u64, memory: &mut Vec<u8>, mut look: impl 
             after: &hart,
         });
     }
+}
+
+/// The word at pc: where Sv39 is in force the one that the map leads to, if there is one, whatever its leaf allows.
+pub fn word_at(hart: &Hart, mem: &[u8], map: &[u64]) -> Option<u32> {
+    let pc = hart.rest[PC];
+    let at = if View::of(&hart.rest).fetch_sv39 {
+        let frame = place(leaf(map, pc)?);
+        frame.checked_mul(PAGE)?.checked_add(pc % PAGE)?
+    } else {
+        pc.checked_sub(BASE)?
+    };
+    let bytes = mem.get(usize::try_from(at).ok()?..)?.first_chunk()?;
+    Some(u32::from_le_bytes(*bytes))
 }

@@ -137,16 +137,12 @@ impl Mix {
             self.run_traps += 1;
             self.note_trap(answer.cause, left);
         }
-        take_again(
-            case,
-            answer.count.min(LOOKED_AT),
-            &mut self.memory,
-            |step| {
-                let executed = !step.answer.trapped || step.answer.cause == 2;
-                self.run_added
-                    .note(step.before, step.word.filter(|_| executed));
-            },
-        );
+        let looked_at = answer.count.min(LOOKED_AT);
+        take_again(case, looked_at, &mut self.memory, |step| {
+            let executed = !step.answer.trapped || step.answer.cause == 2;
+            let word = step.word.filter(|_| executed);
+            self.run_added.note(step.before, word);
+        });
     }
 
     fn note_refusal(&mut self, number: u64) {

@@ -5,7 +5,7 @@ use crate::maker::Maker;
 use crate::operands::{counted, operand};
 use crate::program::Program;
 use formats::corners::*;
-use formats::extensions::{Encoding, ABSENT, COUNTS, M, MIN_MAX};
+use formats::extensions::{drawn, Encoding, ABSENT, COUNTS, M, MIN_MAX};
 use formats::{i, OP_IMM};
 
 /// Of a hundred so many have operands that are drawn for them; the others have what the registers hold.
@@ -56,11 +56,7 @@ pub fn absent(maker: &mut Maker) -> u32 {
 impl Program<'_> {
     /// An instruction of M or Zbb, each as often as the others, mostly of sources that were just put at a corner.
     pub fn extension(&mut self) {
-        let encoding = match self.random.below(13 + 6 + 4) {
-            0..=12 => self.random.pick(&M),
-            13..=18 => self.random.pick(&COUNTS),
-            _ => self.random.pick(&MIN_MAX),
-        };
+        let encoding = drawn(self.random.word());
         let (rs1, rs2) = (self.scratch(), self.scratch());
         let (corners, least): (&[Corner], _) = if encoding.of_words() {
             (&HALVES, LEAST_HALF)

@@ -1,8 +1,6 @@
 //! What a user's step reaches for in memory: its fetch, and the access of its word.
 
-use crate::case::{BASE, PAGE};
 use crate::lifted::{access, masked};
-use crate::named::{leaf, place};
 use crate::state::{View, SSE};
 use sporhulma::word::*;
 use sporhulma::Hart;
@@ -52,17 +50,4 @@ pub fn reach(hart: &Hart, word: u32) -> Option<Reach> {
         address: masked(&View::of(&hart.rest), plain),
         narrow,
     })
-}
-
-/// The word at pc, if there is one, or the map leads to one where Sv39 is in force.
-pub fn word_at(hart: &Hart, mem: &[u8], map: &[u64]) -> Option<u32> {
-    let pc = hart.rest[PC];
-    let at = if View::of(&hart.rest).fetch_sv39 {
-        let frame = place(leaf(map, pc)?);
-        frame.checked_mul(PAGE)?.checked_add(pc % PAGE)?
-    } else {
-        pc.checked_sub(BASE)?
-    };
-    let bytes = mem.get(usize::try_from(at).ok()?..)?.first_chunk()?;
-    Some(u32::from_le_bytes(*bytes))
 }

@@ -1,8 +1,8 @@
 //! Request A3's likely slips, each planted in a wrapper of `second`: the steps must find it, and the runs too. And that each
 //! word beside those of M and Zbb that the hart does not have is found where it is legal.
 
+use differ::again::word_at;
 use differ::case::Call;
-use differ::reach::word_at;
 use differ::simulator::{Second, Simulator};
 use differ::soak::{Failure, Soak};
 use formats::extensions::{absent, added, Encoding, ABSENT};

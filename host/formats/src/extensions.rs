@@ -140,6 +140,14 @@ pub fn all() -> impl Iterator<Item = &'static Encoding> {
     M.iter().chain(&COUNTS).chain(&MIN_MAX)
 }
 
+/// The one of them that a number draws: each as often as the others, where the numbers are random.
+pub fn drawn(number: u64) -> &'static Encoding {
+    let place = number % all().count() as u64;
+    all()
+        .nth(place as usize)
+        .expect("a place below their count")
+}
+
 /// The one of them that a word is.
 pub fn added(word: u32) -> Option<&'static Encoding> {
     all().find(|encoding| encoding.is(word))
@@ -232,6 +240,13 @@ mod tests {
             assert_eq!(absent(word), Some(encoding));
             assert_eq!(added(word), None);
         }
+    }
+
+    #[test]
+    fn each_is_drawn() {
+        let names: Vec<_> = (23..46).map(|number| drawn(number).name).collect();
+        let all: Vec<_> = all().map(|encoding| encoding.name).collect();
+        assert_eq!(names, all);
     }
 
     #[test]
