@@ -4,7 +4,7 @@
 use crate::maker::Maker;
 use crate::operands::{counted, operand};
 use crate::program::Program;
-use formats::corners::*;
+use formats::corners::{corners, division, Corner};
 use formats::extensions::{drawn, Encoding, ABSENT, COUNTS, M, MIN_MAX};
 use formats::{i, OP_IMM};
 
@@ -58,19 +58,14 @@ impl Program<'_> {
     pub fn extension(&mut self) {
         let encoding = drawn(self.random.word());
         let (rs1, rs2) = (self.scratch(), self.scratch());
-        let (corners, least): (&[Corner], _) = if encoding.of_words() {
-            (&HALVES, LEAST_HALF)
-        } else {
-            (&WHOLES, LEAST)
-        };
+        let of_words = encoding.of_words();
         if self.random.chance(25) {
-            // Where division has corners of its own: the least number by -1 or by 0.
-            let divisor = self.random.pick(&[MINUS_ONE, ZERO]);
-            self.words.extend(least.words(rs1));
+            let [dividend, divisor] = division(of_words, self.random.chance(50));
+            self.words.extend(dividend.words(rs1));
             self.words.extend(divisor.words(rs2));
         } else {
-            self.put(rs1, corners);
-            self.put(rs2, corners);
+            self.put(rs1, corners(of_words));
+            self.put(rs2, corners(of_words));
         }
         let rd = self.scratch();
         self.words.push(encoding.word(rd, rs1, rs2));

@@ -21,14 +21,14 @@ const fn corner(immediate: u64, shift: u32, distance: u64) -> Corner {
     }
 }
 
-pub const ZERO: Corner = corner(0, LEFT, 0);
-pub const ONE: Corner = corner(1, LEFT, 0);
-pub const MINUS_ONE: Corner = corner(u64::MAX, LEFT, 0);
-pub const LEAST: Corner = corner(1, LEFT, 63);
-pub const GREATEST: Corner = corner(u64::MAX, RIGHT, 1);
+const ZERO: Corner = corner(0, LEFT, 0);
+const ONE: Corner = corner(1, LEFT, 0);
+const MINUS_ONE: Corner = corner(u64::MAX, LEFT, 0);
+const LEAST: Corner = corner(1, LEFT, 63);
+const GREATEST: Corner = corner(u64::MAX, RIGHT, 1);
 /// Of 32 bits, sign-extended.
-pub const LEAST_HALF: Corner = corner(u64::MAX, LEFT, 31);
-pub const GREATEST_HALF: Corner = corner(u64::MAX, RIGHT, 33);
+const LEAST_HALF: Corner = corner(u64::MAX, LEFT, 31);
+const GREATEST_HALF: Corner = corner(u64::MAX, RIGHT, 33);
 
 /// The corners of 64 bits.
 pub const WHOLES: [Corner; 5] = [ZERO, ONE, MINUS_ONE, LEAST, GREATEST];
@@ -44,6 +44,21 @@ pub const HALVES: [Corner; 8] = [
     corner(u64::MAX, RIGHT, 32),
     corner(1, LEFT, 31),
 ];
+
+/// The corners of 32 or of 64 bits.
+pub fn corners(of_words: bool) -> &'static [Corner] {
+    if of_words {
+        &HALVES
+    } else {
+        &WHOLES
+    }
+}
+
+/// Dividend and divisor where division has corners of its own: the least number by 0 or by -1.
+pub fn division(of_words: bool, by_zero: bool) -> [Corner; 2] {
+    let least = if of_words { LEAST_HALF } else { LEAST };
+    [least, if by_zero { ZERO } else { MINUS_ONE }]
+}
 
 impl Corner {
     /// The words that put it into a register.

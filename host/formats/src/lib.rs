@@ -1,6 +1,6 @@
 //! Words of the base formats from their fields, as the unprivileged manual draws them: what differ, outside and bench make
-//! their programs with. The second simulator does not use it. `extensions` has the instructions of M and Zbb by name,
-//! `corners` what they are tried with.
+//! their programs with. The second simulator does not use it. `extensions` has the instructions of M and Zbb by name and those
+//! beside them, by which the desk names an illegal word; `corners` has what they are tried with.
 
 pub mod corners;
 pub mod extensions;

@@ -238,7 +238,10 @@ fn differ_in_csr(ours: &str, theirs: &str) -> bool {
 /// no such extension.
 fn further(name: &str) -> Option<&'static str> {
     if let Some(encoding) = ABSENT.iter().find(|encoding| encoding.name == name) {
-        return Some(encoding.extension);
+        return Some(match encoding.extension {
+            "Zbb" => "the rest of Zbb",
+            other => other,
+        });
     }
     match name {
         "zext.w" => Some("Zba"),
