@@ -282,7 +282,12 @@ fn illegal_instructions() {
     for (word, options, why) in [
         (0x0000_0000, "", "no instruction of this hart has this word; it is empty memory: the program ran into a\n            place where no code is"),
         (0x0000_4501, "", "no instruction of this hart has this word; its two low bits are not 11, as in a 16-bit\n            instruction (C)"),
-        (0x02b5_0533, "", "no instruction of this hart has this word; it looks like a multiplication or division\n            (M)"),
+        (0x40b5_7533, "", "no instruction of this hart has this word; it looks like ANDN (Zbb)"),
+        (0x0805_053b, "", "no instruction of this hart has this word; it looks like ADD.UW (Zba)"),
+        (0x0ab5_1533, "", "no instruction of this hart has this word; it looks like CLMUL (Zbc)"),
+        (0x2835_1513, "", "no instruction of this hart has this word; it looks like BSETI (Zbs)"),
+        (0x6035_1513, "", "no instruction of this hart has this word"),                      // one after cpop a0,a0
+        (0x02b5_153b, "", "no instruction of this hart has this word"),                      // there is no mulhw
         (0x00b5_252f, "", "no instruction of this hart has this word; it looks like an atomic memory operation (A)"),
         (0x0005_3507, "", "no instruction of this hart has this word; it looks like floating point (F or D)"),
         (0x0000_100f, "", "no instruction of this hart has this word; it looks like FENCE.I"),

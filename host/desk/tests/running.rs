@@ -46,6 +46,32 @@ fn a_trace_shows_what_each_step_changes() {
     );
 }
 
+/// Request A3 in user mode: a division by zero has its result, and traps as little as the others.
+#[test]
+fn a_trace_of_products_and_counts() {
+    let desk = Desk::new("products");
+    let words = [
+        0x02c5_8533, // mul a0,a1,a2
+        0x0205_c533, // div a0,a1,zero
+        0x0205_e533, // rem a0,a1,zero
+        0x6000_1513, // clz a0,zero
+        0x0ac5_d533, // minu a0,a1,a2
+        ECALL,
+    ];
+    desk.image("p.bin", &words);
+    let outcome = desk.run(&format!("run p.bin {USER} --x a1=-7 --x a2=3 --trace"));
+    let (trace, _) = outcome.out.split_once("      6 U").unwrap();
+    assert_eq!(
+        trace,
+        "      1 U 0x0000000000010000 02c58533  mul a0,a1,a2                 a0=0xffffffffffffffeb
+      2 U 0x0000000000010004 0205c533  div a0,a1,zero               a0=0xffffffffffffffff
+      3 U 0x0000000000010008 0205e533  rem a0,a1,zero               a0=0xfffffffffffffff9
+      4 U 0x000000000001000c 60001513  clz a0,zero                  a0=0x40
+      5 U 0x0000000000010010 0ac5d533  minu a0,a1,a2                a0=0x3
+"
+    );
+}
+
 /// 2,500,002 steps are three calls and a last step; the hart after them is the one that the same calls give here.
 #[test]
 fn chained_calls_are_one_long_run() {

@@ -3,13 +3,13 @@
 use crate::case::PAGE;
 use crate::maker::Maker;
 use crate::world::Role;
-use crate::{csr, shadow};
+use crate::{csr, multiply, shadow};
 use formats::*;
 
 type Make = fn(&mut Maker) -> u32;
 
 /// The makers with their weights: more for what depends on much.
-const MAKERS: [(u64, Make); 22] = [
+const MAKERS: [(u64, Make); 26] = [
     (3, lui),
     (3, auipc),
     (4, jal),
@@ -21,6 +21,10 @@ const MAKERS: [(u64, Make); 22] = [
     (4, op_imm_32),
     (5, op),
     (4, op_32),
+    (12, multiply::product),
+    (5, multiply::count),
+    (4, multiply::min_max),
+    (3, multiply::absent),
     (2, fence),
     (6, system),
     (12, csr::instruction),

@@ -3,9 +3,12 @@
 //! A case is a whole input: hart, memory, page map and call. `steps` and `runs` make cases from a seed and a number,
 //! `pair` gives a case to both simulators and compares everything they leave, `soak` does that many times and counts
 //! the mix, `text` writes a case as text and reads it back, and `decoder` compares the verdict on all 2^32 words.
+//! For request A3 `multiply` and `operands` make instructions at their corners, and `added` counts these.
 //! For request A13 `hidden` makes pairs of memories that differ where a user's program may not reach, `twins` looks whether
 //! anything of it shows, and `seen` counts what the pairs were.
 
+pub mod added;
+pub mod again;
 pub mod case;
 pub mod csr;
 pub mod decoder;
@@ -14,7 +17,9 @@ pub mod instruction;
 pub mod lifted;
 pub mod maker;
 pub mod mix;
+pub mod multiply;
 pub mod named;
+pub mod operands;
 pub mod options;
 pub mod pair;
 pub mod program;

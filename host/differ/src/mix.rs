@@ -1,5 +1,7 @@
 //! What the cases were, counted, so that a reader sees that the bias works and a test can demand that nothing is missing.
 
+use crate::added::Added;
+use crate::again::take_again;
 use crate::case::{Call, Case};
 use crate::lifted::Lifted;
 use crate::pair::Side;
@@ -84,7 +86,14 @@ pub struct Mix {
     /// Request A2: of steps, and how many calls of runs start where it lifts masking.
     lifted: Lifted,
     run_lifted: u64,
+    /// Request A3: of steps, and of those of runs.
+    added: Added,
+    run_added: Added,
+    memory: Vec<u8>,
 }
+
+/// A run's call is looked at up to so many steps: most are shorter.
+const LOOKED_AT: u64 = 200;
 
 impl Mix {
     /// Counts a step and what it left; `word` is the instruction, where it is known.
@@ -99,7 +108,9 @@ impl Mix {
         self.modes[case.hart.rest[MODE] as usize & 3] += 1;
         self.untrapped += u64::from(!answer.trapped);
         let executed = !answer.trapped || self.note_trap(answer.cause, left);
-        if let (true, Some(word)) = (executed, word) {
+        let word = word.filter(|_| executed);
+        self.added.note(&case.hart, word);
+        if let Some(word) = word {
             let family = second::family(word) as usize % FAMILIES.len();
             self.families[family] += 1;
             self.families_untrapped[family] += u64::from(!answer.trapped);
@@ -126,6 +137,12 @@ impl Mix {
             self.run_traps += 1;
             self.note_trap(answer.cause, left);
         }
+        let looked_at = answer.count.min(LOOKED_AT);
+        take_again(case, looked_at, &mut self.memory, |step| {
+            let executed = !step.answer.trapped || step.answer.cause == 2;
+            let word = step.word.filter(|_| executed);
+            self.run_added.note(step.before, word);
+        });
     }
 
     fn note_refusal(&mut self, number: u64) {
@@ -149,7 +166,8 @@ impl Mix {
         !(number == 1 || number == 12 || number == 18 && tval == 2)
     }
 
-    /// What a reader of the mix would miss, a sentence each. `runs` tells whether runs were made, which alone give refusal 4.
+    /// What a reader of the mix would miss, a sentence each. `runs` tells whether runs were made, which alone give refusal 4
+    /// and have their own demands for request A3.
     pub fn complaints(&self, runs: bool) -> Vec<String> {
         let mut complaints = Vec::new();
         for (at, name) in FAMILIES.iter().enumerate() {
@@ -172,6 +190,10 @@ impl Mix {
             }
         }
         complaints.extend(self.lifted.complaint(self.steps));
+        complaints.extend(self.added.complaint());
+        if runs {
+            complaints.extend(self.run_added.complaint_of_runs());
+        }
         if self.other_causes > 0 {
             complaints.push(format!(
                 "{} traps had a cause that no hart has",
@@ -181,7 +203,7 @@ impl Mix {
         complaints
     }
 
-    /// Under twenty lines.
+    /// Under thirty lines.
     pub fn text(&self) -> String {
         let mut text = self.steps_text();
         let _ = writeln!(
@@ -201,6 +223,9 @@ impl Mix {
             "           {} calls of runs start so",
             self.run_lifted
         );
+        list(&mut text, "", counts, 8);
+        let (title, counts) = self.added.text(&self.run_added);
+        list(&mut text, "A3", vec![title], 1);
         list(&mut text, "", counts, 8);
         let refusals = (1..5).map(|number| format!("{number}: {}", self.refusals[number]));
         list(&mut text, "refusals", refusals.collect(), 4);

@@ -1,8 +1,6 @@
 //! What a user's step reaches for in memory: its fetch, and the access of its word.
 
-use crate::case::PAGE;
 use crate::lifted::{access, masked};
-use crate::named::{leaf, place};
 use crate::state::{View, SSE};
 use sporhulma::word::*;
 use sporhulma::Hart;
@@ -52,13 +50,4 @@ pub fn reach(hart: &Hart, word: u32) -> Option<Reach> {
         address: masked(&View::of(&hart.rest), plain),
         narrow,
     })
-}
-
-/// The word at pc, if the map leads to one.
-pub fn word_at(hart: &Hart, mem: &[u8], map: &[u64]) -> Option<u32> {
-    let pc = hart.rest[PC];
-    let frame = place(leaf(map, pc)?);
-    let at = frame.checked_mul(PAGE)?.checked_add(pc % PAGE)?;
-    let bytes = mem.get(usize::try_from(at).ok()?..)?.first_chunk()?;
-    Some(u32::from_le_bytes(*bytes))
 }

@@ -3,12 +3,12 @@
 //! A pair's steps are taken again one by one with the second simulator, on the first memory. The counts decide about no
 //! difference, only whether the test has seen enough.
 
+use crate::again::take_again;
 use crate::case::{Call, Case};
 use crate::hidden::Made;
 use crate::mix::list;
 use crate::named::{leaf, place, users, valid};
-use crate::reach::{fetch, reach, word_at, Reach, FETCH, KINDS, LOAD, POP, PUSH, STORE, SWAP};
-use crate::simulator::{Second, Simulator};
+use crate::reach::{fetch, reach, Reach, FETCH, KINDS, LOAD, POP, PUSH, STORE, SWAP};
 use crate::world::{A, D, U};
 use sporhulma::word::*;
 use sporhulma::{Answer, Hart};
@@ -106,7 +106,7 @@ impl Seen {
             (false, Call::Run(_)) => ("end", ENDS[1]),
             (false, _) => ("end", ENDS[2]),
         });
-        self.take_again(case, answer.count);
+        self.note_steps(case, answer.count);
     }
 
     pub fn end(&mut self) {
@@ -122,30 +122,18 @@ impl Seen {
         *self.counts.entry(sort).or_default() += 1;
     }
 
-    fn take_again(&mut self, case: &Case, steps: u64) {
+    fn note_steps(&mut self, case: &Case, steps: u64) {
         let mut memory = std::mem::take(&mut self.memory);
-        memory.clone_from(&case.mem);
-        let mut hart = case.hart;
-        let call = match case.call {
-            Call::StepWord(word) => Call::StepWord(word),
-            _ => Call::Step,
-        };
-        for _ in 0..steps {
-            let before = hart;
-            let word = match call {
-                Call::StepWord(word) => Some(word),
-                _ => word_at(&before, &memory, &case.map),
-            };
-            let answer = Second.call(call, &mut hart, &mut memory, &case.map);
-            if call == Call::Step {
-                self.note_reach(&fetch(&before), &before, &case.map, &answer);
+        take_again(case, steps, &mut memory, |step| {
+            if !matches!(case.call, Call::StepWord(_)) {
+                self.note_reach(&fetch(step.before), step.before, &case.map, &step.answer);
             }
-            if let Some(reach) = word.and_then(|word| reach(&before, word)) {
-                self.note_reach(&reach, &before, &case.map, &answer);
+            if let Some(reach) = step.word.and_then(|word| reach(step.before, word)) {
+                self.note_reach(&reach, step.before, &case.map, &step.answer);
             }
-            self.note_cause(&answer, &hart);
-            self.completed[0] += u64::from(!answer.trapped);
-        }
+            self.note_cause(&step.answer, step.after);
+            self.completed[0] += u64::from(!step.answer.trapped);
+        });
         self.memory = memory;
     }
 
@@ -284,6 +272,7 @@ fn sorts() -> Vec<Sort> {
 #[cfg(test)]
 mod tests {
     use super::*;
+    use crate::simulator::{Second, Simulator};
     use crate::state::SV39;
     use crate::world::{R, V};
     use formats::{i, s};

@@ -173,7 +173,7 @@ mod tests {
     fn the_mix_has_everything() {
         let mut soak = Soak::new(Second, Second, 1);
         (0..200_000).for_each(|number| soak.step(number));
-        (0..2_000).for_each(|number| soak.run(number));
+        (0..5_000).for_each(|number| soak.run(number));
         assert!(soak.failures.is_empty());
         assert_eq!(soak.mix.complaints(true), Vec::<String>::new());
     }
@@ -188,8 +188,8 @@ mod tests {
 
     #[test]
     fn an_empty_mix_has_nothing() {
-        assert_eq!(Mix::default().complaints(true).len(), 24 + 16 + 4 + 1);
-        assert_eq!(Mix::default().complaints(false).len(), 24 + 16 + 3 + 1);
+        assert_eq!(Mix::default().complaints(true).len(), 24 + 16 + 4 + 1 + 2);
+        assert_eq!(Mix::default().complaints(false).len(), 24 + 16 + 3 + 1 + 1);
         assert_eq!(Seen::default().complaints().len(), 30 + 14 + 14 + 7 + 4 + 1);
     }
 }

@@ -3,9 +3,9 @@
 //! The same wrapper stands on both sides, so that the two simulators agree and only the comparison between the two
 //! memories can find anything. A leak is planted where a step has trapped: there the map kept the user out.
 
+use differ::again::word_at;
 use differ::case::{Call, PAGE};
 use differ::named::{leaf, place};
-use differ::reach::word_at;
 use differ::simulator::{Second, Simulator};
 use differ::soak::{Failure, Name, Soak};
 use differ::state::SSE;

@@ -1,4 +1,5 @@
-//! RV64I but for SYSTEM, with GNU's aliases; and `lpad`, which is AUIPC with rd x0.
+//! RV64I but for SYSTEM, with GNU's aliases; the instructions of M and Zbb, which stand in the same
+//! opcodes and have no alias; and `lpad`, which is AUIPC with rd x0.
 //!
 //! Where two aliases fit one word (`blt zero,zero`), the one taken is the one that stands first in
 //! binutils' table.
@@ -96,6 +97,7 @@ pub fn op_imm(word: Word) -> Option<String> {
         (0, 0, 0) if word.rd() == 0 => "nop".to_string(),
         (0, 0, _) => format!("li {rd},{imm}"),
         (0, _, 0) => format!("mv {rd},{rs1}"),
+        (1, _, 0x600..=0x602) => count(word, ""),
         (1, _, _) | (5, _, _) => return shift_imm(word, 6, ""),
         (3, _, 1) => format!("seqz {rd},{rs1}"),
         (4, _, -1) => format!("not {rd},{rs1}"),
@@ -112,9 +114,16 @@ pub fn op_imm_32(word: Word) -> Option<String> {
     match (word.funct3(), imm) {
         (0, 0) => Some(format!("sext.w {rd},{rs1}")),
         (0, _) => Some(format!("addiw {rd},{rs1},{imm}")),
+        (1, 0x600..=0x602) => Some(count(word, "w")),
         (1, _) | (5, _) => shift_imm(word, 5, "w"),
         _ => None,
     }
+}
+
+/// A count of Zbb, of which the last bits of the immediate say which: 0x600, 0x601 or 0x602.
+fn count(word: Word, suffix: &str) -> String {
+    let name = ["clz", "ctz", "cpop"][word.bits(21, 20) as usize];
+    format!("{name}{suffix} {},{}", word.rd_name(), word.rs1_name())
 }
 
 /// A shift by a constant amount of `bits` bits (funct3 1 or 5): the bits above it say which shift,
@@ -144,6 +153,10 @@ pub fn op(word: Word) -> Option<String> {
         (funct7, funct3, _, _) => {
             let name = match funct7 {
                 0 => ["add", "sll", "slt", "sltu", "xor", "srl", "or", "and"][funct3],
+                1 => [
+                    "mul", "mulh", "mulhsu", "mulhu", "div", "divu", "rem", "remu",
+                ][funct3],
+                5 => ["", "", "", "", "min", "minu", "max", "maxu"][funct3],
                 0x20 => ["sub", "", "", "", "", "sra", "", ""][funct3],
                 _ => "",
             };
@@ -162,6 +175,11 @@ pub fn op_32(word: Word) -> Option<String> {
         (0, 1) => "sllw",
         (0, 5) => "srlw",
         (0x20, 5) => "sraw",
+        (1, 0) => "mulw",
+        (1, 4) => "divw",
+        (1, 5) => "divuw",
+        (1, 6) => "remw",
+        (1, 7) => "remuw",
         _ => return None,
     };
     Some(format!("{name} {rd},{rs1},{rs2}"))

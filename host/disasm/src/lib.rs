@@ -1,5 +1,5 @@
 //! GNU-style text of an instruction word: what `objdump -d` prints for it, for every instruction
-//! the hart of document 01 has.
+//! the hart of document 01 has, with those of request A3.
 //!
 //! The mnemonics, aliases (`li`, `mv`, `ret`, `beqz`, `csrr` ..) and register names are GNU's; a
 //! jump or branch target is a hexadecimal address. Three things differ from the objdump of Debian
@@ -32,7 +32,7 @@ pub use names::{csr_name, register};
 /// A word that is not an instruction of the hart, and so traps as illegal, is `.word 0x` and eight
 /// lower-case digits: the word as a directive that every assembler takes and that gives it back.
 /// (objdump's own `.4byte` says the same.) Words that GNU knows and the hart does not, such as
-/// `mul` or `wfi`, are also written so: the text tells what this hart does. A CSR instruction is
+/// `andn` or `wfi`, are also written so: the text tells what this hart does. A CSR instruction is
 /// one whatever its CSR; a CSR that the hart does not have is given by number.
 pub fn text(word: u32, pc: u64) -> String {
     instruction(Word(word), pc).unwrap_or_else(|| format!(".word 0x{word:08x}"))

@@ -23,10 +23,77 @@ fn computation_with_registers() {
         (0x00002533, "sltz a0,zero"),
         (0x40b5553b, "sraw a0,a0,a1"),
         (0x40b0053b, "negw a0,a1"),
-        (0x02b50533, ".word 0x02b50533"), // mul: M is not here
+        (0x04b50533, ".word 0x04b50533"), // add with a bit of funct7 that nothing has
         (0x40b51533, ".word 0x40b51533"), // sll with the bit of sub
         (0x00b5253b, ".word 0x00b5253b"), // there is no sltw
     ]);
+}
+
+/// Words of the GNU assembler for rv64im_zbb.
+#[test]
+fn products_counts_and_order() {
+    check(&[
+        (0x02c58533, "mul a0,a1,a2"),
+        (0x02c59533, "mulh a0,a1,a2"),
+        (0x02c5a533, "mulhsu a0,a1,a2"),
+        (0x02c5b533, "mulhu a0,a1,a2"),
+        (0x02c5c533, "div a0,a1,a2"),
+        (0x02c5d533, "divu a0,a1,a2"),
+        (0x02c5e533, "rem a0,a1,a2"),
+        (0x02c5f533, "remu a0,a1,a2"),
+        (0x02c5853b, "mulw a0,a1,a2"),
+        (0x02c5c53b, "divw a0,a1,a2"),
+        (0x02c5d53b, "divuw a0,a1,a2"),
+        (0x02c5e53b, "remw a0,a1,a2"),
+        (0x02c5f53b, "remuw a0,a1,a2"),
+        (0x60059513, "clz a0,a1"),
+        (0x60159513, "ctz a0,a1"),
+        (0x60259513, "cpop a0,a1"),
+        (0x6005951b, "clzw a0,a1"),
+        (0x6015951b, "ctzw a0,a1"),
+        (0x6025951b, "cpopw a0,a1"),
+        (0x0ac5c533, "min a0,a1,a2"),
+        (0x0ac5d533, "minu a0,a1,a2"),
+        (0x0ac5e533, "max a0,a1,a2"),
+        (0x0ac5f533, "maxu a0,a1,a2"),
+        (0x02000033, "mul zero,zero,zero"), // no alias, as `neg` or `sgtz` would be
+        (0x60001013, "clz zero,zero"),
+    ]);
+}
+
+/// What GNU knows as Zbb, Zba, Zbc or Zbs and the hart does not have, and words that nobody knows.
+#[test]
+fn neighbours_of_the_counts_are_words() {
+    for word in [
+        0x60459513, // sext.b
+        0x60559513, // sext.h
+        0x0805c53b, // zext.h
+        0x2875d513, // orc.b
+        0x6b85d513, // rev8
+        0x40c5f533, // andn
+        0x40c5e533, // orn
+        0x40c5c533, // xnor
+        0x60c59533, // rol
+        0x60c5d533, // ror
+        0x6035d513, // rori
+        0x60c5953b, // rolw
+        0x6035d51b, // roriw
+        0x08c5853b, // add.uw
+        0x20c5a533, // sh1add
+        0x0835951b, // slli.uw
+        0x0ac59533, // clmul
+        0x0ac5a533, // clmulr
+        0x0ac5b533, // clmulh
+        0x48c59533, // bclr
+        0x28359513, // bseti
+        0x60359513, // one after cpop
+        0x6035951b, 0x62059513, // clz with bit 25
+        0x20059513, // clz without bit 30
+        0x6205951b, 0x02c5953b, // there is no mulhw
+        0x0ac5c53b, // nor minw
+    ] {
+        assert_eq!(text(word, PC), format!(".word 0x{word:08x}"));
+    }
 }
 
 #[test]

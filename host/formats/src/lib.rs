@@ -1,5 +1,9 @@
 //! Words of the base formats from their fields, as the unprivileged manual draws them: what differ, outside and bench make
-//! their programs with. The second simulator does not use it.
+//! their programs with. The second simulator does not use it. `extensions` has the instructions of M and Zbb by name and those
+//! beside them, by which the desk names an illegal word; `corners` has what they are tried with.
+
+pub mod corners;
+pub mod extensions;
 
 pub const LOAD: u32 = 0x03;
 pub const MISC_MEM: u32 = 0x0F;
@@ -21,7 +25,7 @@ pub const EBREAK: u32 = 0x0010_0073;
 pub const SRET: u32 = 0x1020_0073;
 pub const MRET: u32 = 0x3020_0073;
 
-pub fn r(opcode: u32, funct3: u32, funct7: u32, rd: u32, rs1: u32, rs2: u32) -> u32 {
+pub const fn r(opcode: u32, funct3: u32, funct7: u32, rd: u32, rs1: u32, rs2: u32) -> u32 {
     (funct7 << 25) | (rs2 << 20) | (rs1 << 15) | (funct3 << 12) | (rd << 7) | opcode
 }
 

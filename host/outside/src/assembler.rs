@@ -14,7 +14,7 @@ use crate::report::Report;
 use crate::words::{sample, BASE};
 
 const AS: [&str; 4] = [
-    "-march=rv64i_zicsr",
+    "-march=rv64im_zicsr_zbb",
     "-mabi=lp64",
     "-mno-relax",
     "-mno-arch-attr",

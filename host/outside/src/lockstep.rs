@@ -4,15 +4,17 @@
 //!
 //! The hart starts with the registers that QEMU's boot code leaves. Where an address has nothing to
 //! fetch, QEMU's log has no entry before the fault, so that our side takes two steps there. Two
-//! differences in tval are known (`Choice`): there our value is checked by itself and then set to
-//! QEMU's, so that the programs stay together. What programs do not do, because the two may differ
-//! there, is written in program/body.rs, program/csrs.rs and, for MPRV, program.rs.
+//! differences in tval are known, and one in CTZW's count (`Choice`): there our value is checked by
+//! itself and then set to QEMU's, so that the programs stay together. What programs do not do,
+//! because the two may differ there, is written in program/body.rs, program/csrs.rs and, for MPRV,
+//! program.rs.
 
 use crate::gnu;
 use crate::program::{generate, Program, BASE};
 use crate::qemu::{self, Entry, Qemu, LOGGED};
 use crate::report::Report;
 use crate::side::{proved, second, Side};
+use formats::extensions::added;
 use sporhulma::word::{MODE, MTVAL, PC, STVAL};
 use sporhulma::{Hart, REST};
 use std::ops::Range;
@@ -69,7 +71,7 @@ fn one_program(report: &mut Report, program: &Program, place: &str) -> Result<u6
 
 /// Takes `side` to where QEMU's next entry is and compares; an error says what differs.
 fn one_step(report: &mut Report, side: &mut Side, entry: &Entry) -> Result<(), String> {
-    let (pc, word) = (side.pc(), side.word());
+    let (pc, word, before) = (side.pc(), side.word(), side.hart);
     let text = word.map_or("nothing".to_string(), |word| disasm::text(word, pc));
     let at = |different: String| format!("at {pc:#x}, `{text}`: {different}");
     let mut cause = side.step().map_err(at)?;
@@ -77,16 +79,11 @@ fn one_step(report: &mut Report, side: &mut Side, entry: &Entry) -> Result<(), S
         cause = side.step().map_err(at)?;
     }
     let name = side.simulator.name;
-    let tval = if side.hart.rest[MODE] == 3 {
-        MTVAL
-    } else {
-        STVAL
-    };
-    let choice = cause.zip(word).and_then(|(cause, word)| {
-        known_choice(cause, word, pc, side.hart.rest[tval], entry.rest[tval])
+    let choice = word.and_then(|word| match cause {
+        Some(cause) => evened_tval(&mut side.hart, entry, cause, word, pc),
+        None => evened_count(&mut side.hart, entry, word, &before),
     });
     if let Some(choice) = choice {
-        side.hart.rest[tval] = entry.rest[tval];
         report.count(format!("{name}: known choice: {}", choice.text()));
     }
     if let Some(cause) = cause {
@@ -96,6 +93,22 @@ fn one_step(report: &mut Report, side: &mut Side, entry: &Entry) -> Result<(), S
         different if different.is_empty() => Ok(()),
         different => Err(at(different.join("; "))),
     }
+}
+
+/// Sets the tval of the trap that `word` at `pc` took to QEMU's, where they differ by a known choice.
+fn evened_tval(hart: &mut Hart, entry: &Entry, cause: u64, word: u32, pc: u64) -> Option<Choice> {
+    let tval = if hart.rest[MODE] == 3 { MTVAL } else { STVAL };
+    let choice = known_choice(cause, word, pc, hart.rest[tval], entry.rest[tval])?;
+    hart.rest[tval] = entry.rest[tval];
+    Some(choice)
+}
+
+/// Sets what `word` wrote to QEMU's, where they differ by a known count; `before` is the hart before it.
+fn evened_count(hart: &mut Hart, entry: &Entry, word: u32, before: &Hart) -> Option<Choice> {
+    let [rd, rs1] = [7, 15].map(|at| (word >> at) as usize & 31);
+    let choice = known_count(word, before.x[rs1], hart.x[rd], entry.x[rd])?;
+    hart.x[rd] = entry.x[rd];
+    Some(choice)
 }
 
 /// Counts the instruction that is about to be executed.
@@ -120,18 +133,20 @@ fn tally(report: &mut Report, side: &Side) {
         "MRET",
         "CSR",
     ];
-    let family = side.word().map_or(0, sporhulma::family) as usize;
-    report.count(format!(
-        "instructions: {}",
-        FAMILIES.get(family).unwrap_or(&"other")
-    ));
+    let word = side.word();
+    let family = word.map_or(0, sporhulma::family) as usize;
+    let name = match word.and_then(added) {
+        Some(encoding) => format!("extension {}", encoding.extension),
+        None => FAMILIES.get(family).unwrap_or(&"other").to_string(),
+    };
+    report.count(format!("instructions: {name}"));
     report.count(format!(
         "instructions in {}",
         ["U", "S", "?", "M"][side.hart.rest[MODE] as usize & 3]
     ));
 }
 
-/// Where QEMU's tval and ours differ by a choice that is known.
+/// Where QEMU's tval or count and ours differ by a choice that is known.
 #[derive(Clone, Copy, PartialEq, Eq, Debug)]
 enum Choice {
     /// EBREAK: the manual allows pc and 0. Document 01 has pc, QEMU 7.2 has 0.
@@ -139,6 +154,9 @@ enum Choice {
     /// A JAL or branch to a misaligned target: the manual has the target or 0. Document 01 has the
     /// target; QEMU 7.2 has the jump's own pc, which is its mistake.
     MisalignedTarget,
+    /// CTZW of a lower half of 0 under one that is not: the manual has 32. QEMU 7.2 has the trailing
+    /// zeros of all 64 bits, which is its mistake.
+    TrailingZeros,
 }
 
 impl Choice {
@@ -146,6 +164,7 @@ impl Choice {
         match self {
             Choice::Breakpoint => "EBREAK, tval is pc and not 0",
             Choice::MisalignedTarget => "misaligned target, tval is the target and not pc",
+            Choice::TrailingZeros => "CTZW of a lower half of 0 is 32, and QEMU 7.2 counts on",
         }
     }
 }
@@ -160,6 +179,15 @@ fn known_choice(cause: u64, word: u32, pc: u64, ours: u64, theirs: u64) -> Optio
             .then_some(Choice::MisalignedTarget),
         _ => None,
     }
+}
+
+/// The known choice by which the counts differ that `word` gave of `operand`; none if it is no such
+/// word, or they are equal, or differ otherwise.
+fn known_count(word: u32, operand: u64, ours: u64, theirs: u64) -> Option<Choice> {
+    let is_ctzw = added(word).is_some_and(|encoding| encoding.name == "ctzw");
+    let mistaken = theirs == u64::from(operand.trailing_zeros());
+    let zero = operand as u32 == 0 && operand != 0;
+    (is_ctzw && zero && ours == 32 && ours != theirs && mistaken).then_some(Choice::TrailingZeros)
 }
 
 /// What differs, in words.
@@ -213,5 +241,17 @@ mod tests {
         assert_eq!(known_choice(0, jal, pc, pc + 2, pc), None);
         assert_eq!(known_choice(0, jal, pc, pc + 6, 0), None);
         assert_eq!(known_choice(2, jal, pc, pc, 0), None);
+    }
+
+    #[test]
+    fn only_the_count_that_qemu_gets_wrong_passes() {
+        let (ctz, ctzw, known) = (0x6015_9513, 0x6015_951b, Some(Choice::TrailingZeros));
+        assert_eq!(known_count(ctzw, 1 << 40, 32, 40), known);
+        assert_eq!(known_count(ctzw, 0, 32, 64), None);
+        assert_eq!(known_count(ctzw, 1 << 32, 32, 32), None);
+        assert_eq!(known_count(ctzw, 1 << 40, 40, 32), None);
+        assert_eq!(known_count(ctzw, 1 << 40, 32, 41), None);
+        assert_eq!(known_count(ctzw, 1 << 31, 32, 31), None);
+        assert_eq!(known_count(ctz, 1 << 40, 32, 40), None);
     }
 }

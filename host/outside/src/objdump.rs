@@ -1,8 +1,9 @@
 //! Our text of many words beside GNU objdump's, and our verdict (instruction or not) beside both
 //! simulators' decoders.
 //!
-//! The words lie in a flat binary, which objdump reads as rv64gc. The rule by which a line is
-//! compared, made for binutils 2.40:
+//! The words lie in an object whose attributes say rv64gc with Zba, Zbb, Zbc and Zbs (`KNOWN`), so
+//! that objdump has a name for each instruction of M and Zbb and for those beside them that the hart
+//! does not have. The rule by which a line is compared, made for binutils 2.40:
 //! 1. objdump's tab is a space, and both texts end before ` # `: objdump adds an address there that
 //!    it guesses from the words before, and we say `fence` of a word for which GNU has no name.
 //! 2. Where the last operand is a number, `add` is read as `addi`, and so on for the names in
@@ -24,6 +25,10 @@
 use crate::gnu;
 use crate::report::Report;
 use crate::words::{sample, BASE};
+use formats::extensions::{added, ABSENT};
+
+/// What objdump is to know.
+const KNOWN: &str = "-march=rv64gc_zba_zbb_zbc_zbs";
 
 pub fn compare(seed: u64) -> Result<u64, String> {
     let mut report = Report::new("objdump");
@@ -35,7 +40,10 @@ pub fn compare(seed: u64) -> Result<u64, String> {
     for (place, (&word, theirs)) in long.iter().zip(&theirs).enumerate() {
         let ours = disasm::text(word, BASE + 4 * place as u64);
         match judge(&ours, theirs) {
-            Some(label) => report.count(label),
+            Some(label) => report.count(match added(word) {
+                Some(_) => label + " of M or Zbb",
+                None => label,
+            }),
             None => report.difference(format!(
                 "word 0x{word:08x}: ours `{ours}`, objdump's `{theirs}`; seed {seed}"
             )),
@@ -73,23 +81,9 @@ fn decoders(report: &mut Report, words: &[u32], seed: u64) {
 
 /// objdump's text of each word.
 fn disassembled(words: &[u32]) -> Result<Vec<String>, String> {
-    let path = gnu::file("words.bin")?;
-    let bytes: Vec<u8> = words.iter().flat_map(|word| word.to_le_bytes()).collect();
-    gnu::write(&path, &bytes)?;
     let vma = format!("--adjust-vma={BASE:#x}");
-    let printed = gnu::output(
-        "objdump",
-        &[
-            "-D",
-            "-z",
-            "-b",
-            "binary",
-            "-m",
-            "riscv:rv64",
-            &vma,
-            &path.display().to_string(),
-        ],
-    )?;
+    let object = object(words)?;
+    let printed = gnu::output("objdump", &["-D", "-z", "-j", ".text", &vma, &object])?;
     let texts: Vec<_> = printed.lines().filter_map(line).collect();
     for (place, (address, word, _)) in texts.iter().enumerate() {
         if *address != BASE + 4 * place as u64 || words.get(place) != Some(word) {
@@ -104,6 +98,20 @@ fn disassembled(words: &[u32]) -> Result<Vec<String>, String> {
             words.len()
         )),
     }
+}
+
+/// An object with the words as its text. It has no symbols: as marks what `.incbin` takes in as
+/// data, and objdump would print it so.
+fn object(words: &[u32]) -> Result<String, String> {
+    let [bytes, source, object] = ["words.bin", "words-in.s", "words-in.o"].map(gnu::file);
+    let (bytes, source, object) = (bytes?, source?, object?.display().to_string());
+    let all: Vec<u8> = words.iter().flat_map(|word| word.to_le_bytes()).collect();
+    gnu::write(&bytes, &all)?;
+    let text = format!(".incbin \"{}\"\n", bytes.display());
+    gnu::write(&source, text.as_bytes())?;
+    gnu::output("as", &[KNOWN, "-o", &object, &source.display().to_string()])?;
+    gnu::output("strip", &[&object])?;
+    Ok(object)
 }
 
 /// Address, word and text of a line such as `    80000000:\t00000013          \tnop`; none for the
@@ -229,16 +237,18 @@ fn differ_in_csr(ours: &str, theirs: &str) -> bool {
 /// The extension of an instruction that GNU knows and the hart does not have; none if `name` is of
 /// no such extension.
 fn further(name: &str) -> Option<&'static str> {
-    const M: [&str; 13] = [
-        "mul", "mulh", "mulhsu", "mulhu", "mulw", "div", "divu", "divw", "divuw", "rem", "remu",
-        "remw", "remuw",
-    ];
+    if let Some(encoding) = ABSENT.iter().find(|encoding| encoding.name == name) {
+        return Some(match encoding.extension {
+            "Zbb" => "the rest of Zbb",
+            other => other,
+        });
+    }
     match name {
+        "zext.w" => Some("Zba"),
         "fence.i" => Some("Zifencei"),
         "wfi" | "sfence.vma" | "sfence.vm" | "uret" | "hret" | "dret" => {
             Some("privileged (wfi, sfence.vma, uret, dret)")
         }
-        _ if M.contains(&name) => Some("M"),
         _ if ["lr.", "sc.", "amo"]
             .iter()
             .any(|start| name.starts_with(start)) =>
@@ -278,7 +288,11 @@ mod tests {
         assert!(judge("lpad 0x1", "auipc zero,0x1").is_some());
         assert!(judge("sspush ra", ".4byte 0xce104073").is_some());
         assert!(judge("sspush ra", "csrr ra,mstatus").is_none());
-        assert!(judge(".word 0x02a50533", "mul a0,a0,a0").is_some());
+        assert!(judge(".word 0x40a57533", "andn a0,a0,a0").is_some());
+        assert!(judge(".word 0x60355513", "ror a0,a0,0x3").is_some());
+        assert!(judge(".word 0x02a50533", "mul a0,a0,a0").is_none());
+        assert!(judge(".word 0x60051513", "clz a0,a0").is_none());
+        assert!(judge("clz a0,a0", ".4byte 0x60051513").is_none());
         assert!(judge("csrr a0,0xc80", "csrr a0,cycleh").is_some());
         assert!(judge("csrr a0,0xc80", "csrr a1,cycleh").is_none());
         assert!(judge("csrr a0,ssp", "csrr a0,0x11").is_some());

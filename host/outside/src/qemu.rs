@@ -1,8 +1,8 @@
 //! QEMU's riscv64 system emulator, one instruction at a time: how it is started, and what its log
 //! says before each instruction.
 //!
-//! It is told to have RV64I, Zicsr and S and U modes, and none of the extensions that the hart does
-//! not have. PMP is off: with it on and no entry set, S and U could reach no memory.
+//! It is told to have RV64I, M, Zbb, Zicsr and S and U modes, and none of the extensions of which
+//! the hart has nothing. PMP is off: with it on and no entry set, S and U could reach no memory.
 
 use sporhulma::word::*;
 use sporhulma::REST;
@@ -16,7 +16,7 @@ use std::time::Duration;
 const QEMU: &str = "qemu-system-riscv64";
 
 const CPU: &str =
-    "rv64,m=false,a=false,f=false,d=false,c=false,h=false,zba=false,zbb=false,zbc=false,zbs=false,\
+    "rv64,m=true,a=false,f=false,d=false,c=false,h=false,zba=false,zbb=true,zbc=false,zbs=false,\
                    Zifencei=false,Zihintpause=false,pmp=false,sstc=false,priv_spec=v1.12.0";
 
 /// A program takes a few seconds; when this much time has passed, QEMU hangs and is stopped.

@@ -1,8 +1,9 @@
-//! The words whose text is compared: every opcode, funct3 and funct7 with varied fields, every CSR
-//! address, every Zimop word with the registers that matter, near misses (one bit away from each
-//! instruction and alias) and random words.
+//! The words whose text is compared: every opcode, funct3 and funct7 with varied fields, every
+//! instruction of M and of the Zb extensions, every CSR address, every Zimop word with the registers
+//! that matter, near misses (one bit away from each instruction and alias) and random words.
 
 use crate::random::Random;
+use formats::extensions::{all, ABSENT};
 use std::collections::{BTreeMap, BTreeSet};
 
 /// The address of the first word; each next one stands 4 bytes on.
@@ -14,6 +15,7 @@ pub fn sample(seed: u64) -> Vec<u32> {
     let mut words = BTreeSet::new();
     for_all_functs(random, &mut words);
     with_edge_immediates(random, &mut words);
+    of_extensions(random, &mut words);
     with_every_csr(random, &mut words);
     may_be_operations(random, &mut words);
     near_misses(&mut words);
@@ -57,6 +59,18 @@ fn with_edge_immediates(random: &mut Random, words: &mut BTreeSet<u32>) {
                     words.insert(immediate << 20 | fields(random, 0, funct3, opcode) & 0xf_ffff);
                 }
             }
+        }
+    }
+}
+
+/// Each instruction of M and Zbb that the hart has, the words one bit away, and those of Zba, Zbb,
+/// Zbc and Zbs that it does not have.
+fn of_extensions(random: &mut Random, words: &mut BTreeSet<u32>) {
+    for encoding in all().chain(&ABSENT) {
+        for _ in 0..20 {
+            let word = encoding.word(register(random), register(random), register(random));
+            words.insert(word);
+            words.extend((0..32).map(|bit| word ^ 1 << bit));
         }
     }
 }
@@ -126,5 +140,9 @@ mod tests {
             seen.iter().all(|&count| count > 0),
             "a family is missing: {seen:?}"
         );
+        for encoding in all().chain(&ABSENT) {
+            let found = words.iter().any(|&word| encoding.is(word));
+            assert!(found, "{} is missing", encoding.name);
+        }
     }
 }

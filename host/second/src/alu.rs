@@ -1,4 +1,7 @@
-//! The integer instructions' arithmetic, in 64 bits and in the 32 bits of the W forms.
+//! The integer instructions' arithmetic, in 64 bits and in the 32 bits of the W forms. M's division and upper products
+//! are in `multiply`.
+
+use crate::multiply::*;
 
 #[derive(Clone, Copy, PartialEq, Eq, Debug)]
 pub enum Operation {
@@ -12,6 +15,21 @@ pub enum Operation {
     Sra,
     Or,
     And,
+    Mul,
+    Mulh,
+    Mulhsu,
+    Mulhu,
+    Div,
+    Divu,
+    Rem,
+    Remu,
+    Clz,
+    Ctz,
+    Cpop,
+    Min,
+    Minu,
+    Max,
+    Maxu,
 }
 
 /// The operations that have a W form.
@@ -22,6 +40,14 @@ pub enum WordOperation {
     Sll,
     Srl,
     Sra,
+    Mul,
+    Div,
+    Divu,
+    Rem,
+    Remu,
+    Clz,
+    Ctz,
+    Cpop,
 }
 
 #[derive(Clone, Copy, PartialEq, Eq, Debug)]
@@ -34,8 +60,10 @@ pub enum Comparison {
     NotLessUnsigned,
 }
 
-/// A shift looks at the low six bits of `b` only.
-#[inline]
+/// A shift looks at the low six bits of `b` only, and a count not at `b` at all.
+///
+/// Always inlined, as `decode` is: left to itself the compiler makes a call of so long a list.
+#[inline(always)]
 pub fn compute(operation: Operation, a: u64, b: u64) -> u64 {
     let distance = (b & 63) as u32;
     match operation {
@@ -49,20 +77,45 @@ pub fn compute(operation: Operation, a: u64, b: u64) -> u64 {
         Operation::Sra => (a as i64 >> distance) as u64,
         Operation::Or => a | b,
         Operation::And => a & b,
+        Operation::Mul => a.wrapping_mul(b),
+        Operation::Mulh => upper(a, b),
+        Operation::Mulhsu => upper_mixed(a, b),
+        Operation::Mulhu => upper_unsigned(a, b),
+        Operation::Div => quotient(a, b),
+        Operation::Divu => quotient_unsigned(a, b),
+        Operation::Rem => remainder(a, b),
+        Operation::Remu => remainder_unsigned(a, b),
+        Operation::Clz => a.leading_zeros().into(),
+        Operation::Ctz => a.trailing_zeros().into(),
+        Operation::Cpop => a.count_ones().into(),
+        Operation::Min => (a as i64).min(b as i64) as u64,
+        Operation::Minu => a.min(b),
+        Operation::Max => (a as i64).max(b as i64) as u64,
+        Operation::Maxu => a.max(b),
     }
 }
 
-/// Works on the low 32 bits and sign-extends; a shift looks at the low five bits of `b` only.
+/// Works on the low 32 bits and sign-extends; a shift looks at the low five bits of `b` only. A division is the one of 64
+/// bits on the extended halves: where 32 bits have a corner, the low half of what it gives is right too.
 #[inline]
 pub fn compute_word(operation: WordOperation, a: u64, b: u64) -> u64 {
     let (a, b) = (a as i32, b as i32);
     let distance = (b & 31) as u32;
+    let unsigned = |half: i32| u64::from(half as u32);
     let result = match operation {
         WordOperation::Add => a.wrapping_add(b),
         WordOperation::Sub => a.wrapping_sub(b),
         WordOperation::Sll => a << distance,
         WordOperation::Srl => (a as u32 >> distance) as i32,
         WordOperation::Sra => a >> distance,
+        WordOperation::Mul => a.wrapping_mul(b),
+        WordOperation::Div => quotient(a as u64, b as u64) as i32,
+        WordOperation::Divu => quotient_unsigned(unsigned(a), unsigned(b)) as i32,
+        WordOperation::Rem => remainder(a as u64, b as u64) as i32,
+        WordOperation::Remu => remainder_unsigned(unsigned(a), unsigned(b)) as i32,
+        WordOperation::Clz => a.leading_zeros() as i32,
+        WordOperation::Ctz => a.trailing_zeros() as i32,
+        WordOperation::Cpop => a.count_ones() as i32,
     };
     result as u64
 }

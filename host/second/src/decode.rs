@@ -150,11 +150,18 @@ fn store(word: u32) -> Instruction {
     Instruction::Store(width, s_format(word))
 }
 
-/// A shift's immediate keeps its funct6 above the distance; the shift looks at the distance only.
+/// A shift's immediate keeps its funct6 above the distance; the shift looks at the distance only. Zbb's counts stand among
+/// the shifts, by all twelve bits.
 fn op_imm(word: u32) -> Instruction {
     let operation = match (funct3(word), funct6(word)) {
         (0, _) => Operation::Add,
         (1, 0b00_0000) => Operation::Sll,
+        (1, _) => match funct12(word) {
+            0x600 => Operation::Clz,
+            0x601 => Operation::Ctz,
+            0x602 => Operation::Cpop,
+            _ => return Illegal,
+        },
         (2, _) => Operation::Slt,
         (3, _) => Operation::Sltu,
         (4, _) => Operation::Xor,
@@ -171,6 +178,12 @@ fn op_imm_32(word: u32) -> Instruction {
     let operation = match (funct3(word), funct7(word)) {
         (0, _) => WordOperation::Add,
         (1, 0b000_0000) => WordOperation::Sll,
+        (1, _) => match funct12(word) {
+            0x600 => WordOperation::Clz,
+            0x601 => WordOperation::Ctz,
+            0x602 => WordOperation::Cpop,
+            _ => return Illegal,
+        },
         (5, 0b000_0000) => WordOperation::Srl,
         (5, 0b010_0000) => WordOperation::Sra,
         _ => return Illegal,
@@ -178,6 +191,8 @@ fn op_imm_32(word: u32) -> Instruction {
     Instruction::OpImm32(operation, i_format(word))
 }
 
+/// With funct7 1 M's, with 5 the minimum and maximum of Zbb. Always inlined: the list is so long that the compiler would not.
+#[inline(always)]
 fn op(word: u32) -> Instruction {
     let operation = match (funct3(word), funct7(word)) {
         (0, 0b000_0000) => Operation::Add,
@@ -190,6 +205,18 @@ fn op(word: u32) -> Instruction {
         (5, 0b010_0000) => Operation::Sra,
         (6, 0b000_0000) => Operation::Or,
         (7, 0b000_0000) => Operation::And,
+        (0, 0b000_0001) => Operation::Mul,
+        (1, 0b000_0001) => Operation::Mulh,
+        (2, 0b000_0001) => Operation::Mulhsu,
+        (3, 0b000_0001) => Operation::Mulhu,
+        (4, 0b000_0001) => Operation::Div,
+        (5, 0b000_0001) => Operation::Divu,
+        (6, 0b000_0001) => Operation::Rem,
+        (7, 0b000_0001) => Operation::Remu,
+        (4, 0b000_0101) => Operation::Min,
+        (5, 0b000_0101) => Operation::Minu,
+        (6, 0b000_0101) => Operation::Max,
+        (7, 0b000_0101) => Operation::Maxu,
         _ => return Illegal,
     };
     Instruction::Op(operation, r_format(word))
@@ -202,6 +229,11 @@ fn op_32(word: u32) -> Instruction {
         (1, 0b000_0000) => WordOperation::Sll,
         (5, 0b000_0000) => WordOperation::Srl,
         (5, 0b010_0000) => WordOperation::Sra,
+        (0, 0b000_0001) => WordOperation::Mul,
+        (4, 0b000_0001) => WordOperation::Div,
+        (5, 0b000_0001) => WordOperation::Divu,
+        (6, 0b000_0001) => WordOperation::Rem,
+        (7, 0b000_0001) => WordOperation::Remu,
         _ => return Illegal,
     };
     Instruction::Op32(operation, r_format(word))

@@ -75,6 +75,12 @@ pub fn funct5(word: u32) -> u32 {
     word >> 27
 }
 
+/// The bits above rs1, where an instruction of format I has no immediate.
+#[inline]
+pub fn funct12(word: u32) -> u32 {
+    word >> 20
+}
+
 /// The address in a CSR instruction.
 #[inline]
 pub fn csr_address(word: u32) -> u16 {

@@ -12,6 +12,7 @@ mod execute;
 mod fields;
 mod hart;
 mod memory;
+mod multiply;
 mod pads;
 mod refusal;
 mod run;

@@ -6,18 +6,6 @@ use common::*;
 const MIN: u64 = 1 << 63;
 const MIN_32: u64 = 0xFFFF_FFFF_8000_0000;
 
-/// x3 after the word with x1 and x2 set.
-fn result(word: u32, x1: u64, x2: u64) -> u64 {
-    let mut w = world(USER);
-    (w.h.x[1], w.h.x[2]) = (x1, x2);
-    let mut after = w.clone();
-    w.passes(word);
-    after.h.x[3] = w.h.x[3];
-    after.h.pc += 4;
-    assert_eq!(w, after, "{word:#x}");
-    w.h.x[3]
-}
-
 #[test]
 fn op() {
     let table = [

@@ -5,7 +5,7 @@ use common::*;
 use second::family;
 
 /// Fixed bits, their value and the family, first match first. The masks are those of the manuals' listings.
-const ENCODINGS: [(u32, u32, u64); 75] = [
+const ENCODINGS: [(u32, u32, u64); 117] = [
     (0x7F, 0x37, 1),
     (0x7F, 0x17, 2),
     (0x7F, 0x6F, 3),
@@ -77,12 +77,57 @@ const ENCODINGS: [(u32, u32, u64); 75] = [
     // MOP.R: 1-00--0111-- and MOP.RR: 1-00--1, with the free bits of n left out.
     (0xB3C0_707F, 0x81C0_4073, 22),
     (0xB200_707F, 0x8200_4073, 23),
-    // Words that this hart does not have (WFI, SFENCE.VMA, FENCE.I, MUL, compressed): more seeds.
+    // Request A3: M in OP; MIN, MINU, MAX, MAXU; M in OP-32; CLZ, CTZ, CPOP and their W forms.
+    (0xFE00_707F, 0x0200_0033, 10),
+    (0xFE00_707F, 0x0200_1033, 10),
+    (0xFE00_707F, 0x0200_2033, 10),
+    (0xFE00_707F, 0x0200_3033, 10),
+    (0xFE00_707F, 0x0200_4033, 10),
+    (0xFE00_707F, 0x0200_5033, 10),
+    (0xFE00_707F, 0x0200_6033, 10),
+    (0xFE00_707F, 0x0200_7033, 10),
+    (0xFE00_707F, 0x0A00_4033, 10),
+    (0xFE00_707F, 0x0A00_5033, 10),
+    (0xFE00_707F, 0x0A00_6033, 10),
+    (0xFE00_707F, 0x0A00_7033, 10),
+    (0xFE00_707F, 0x0200_003B, 11),
+    (0xFE00_707F, 0x0200_403B, 11),
+    (0xFE00_707F, 0x0200_503B, 11),
+    (0xFE00_707F, 0x0200_603B, 11),
+    (0xFE00_707F, 0x0200_703B, 11),
+    (0xFFF0_707F, 0x6000_1013, 8),
+    (0xFFF0_707F, 0x6010_1013, 8),
+    (0xFFF0_707F, 0x6020_1013, 8),
+    (0xFFF0_707F, 0x6000_101B, 9),
+    (0xFFF0_707F, 0x6010_101B, 9),
+    (0xFFF0_707F, 0x6020_101B, 9),
+    // Words that this hart does not have (WFI, SFENCE.VMA, FENCE.I, compressed): more seeds.
     (!0, 0x1050_0073, 0),
     (!0, 0x1200_0073, 0),
     (0x707F, 0x100F, 0),
-    (0xFE00_707F, 0x0200_0033, 0),
     (0x3, 0x1, 0),
+    // The rest of Zbb: SEXT.B, SEXT.H, ZEXT.H, ORC.B, REV8, ROL, ROLW, ROR, RORI, XNOR, ORN, ANDN.
+    (0xFFF0_707F, 0x6040_1013, 0),
+    (0xFFF0_707F, 0x6050_1013, 0),
+    (0xFFF0_707F, 0x0800_403B, 0),
+    (0xFFF0_707F, 0x2870_5013, 0),
+    (0xFFF0_707F, 0x6B80_5013, 0),
+    (0xFE00_707F, 0x6000_1033, 0),
+    (0xFE00_707F, 0x6000_103B, 0),
+    (0xFE00_707F, 0x6000_5033, 0),
+    (0xFC00_707F, 0x6000_5013, 0),
+    (0xFE00_707F, 0x4000_4033, 0),
+    (0xFE00_707F, 0x4000_6033, 0),
+    (0xFE00_707F, 0x4000_7033, 0),
+    // Of Zba, Zbc and Zbs: SH1ADD, ADD.UW, SLLI.UW, CLMUL, CLMULR, CLMULH, BCLR, BSETI.
+    (0xFE00_707F, 0x2000_2033, 0),
+    (0xFE00_707F, 0x0800_003B, 0),
+    (0xFC00_707F, 0x0800_101B, 0),
+    (0xFE00_707F, 0x0A00_1033, 0),
+    (0xFE00_707F, 0x0A00_2033, 0),
+    (0xFE00_707F, 0x0A00_3033, 0),
+    (0xFE00_707F, 0x4800_1033, 0),
+    (0xFC00_707F, 0x2800_1013, 0),
 ];
 
 fn expected(word: u32) -> u64 {
@@ -134,14 +179,8 @@ fn may_be_operations_are_counted() {
 
 #[test]
 fn an_illegal_word_is_its_own_tval() {
-    for word in [
-        0,
-        u32::MAX,
-        0x0200_0033,
-        0x1050_0073,
-        0x1200_0073,
-        0x0000_100F,
-    ] {
+    let listed = ENCODINGS.iter().filter(|row| row.2 == 0).map(|row| row.1);
+    for word in [0, u32::MAX].into_iter().chain(listed) {
         for mode in [USER, SUPERVISOR, MACHINE] {
             world(mode).traps(word, 2, u64::from(word));
         }

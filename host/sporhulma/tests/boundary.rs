@@ -81,6 +81,9 @@ fn a_refusal_changes_nothing() {
 #[test]
 fn a_word_has_its_family() {
     assert_eq!((family(ADDI), family(0), family(0xCE10_4073)), (8, 0, 19));
+    // Those of M and Zbb count with the opcode that they stand in: clz, clzw, mul, mulw.
+    let added = [0x6005_9513, 0x6005_951B, 0x02C5_8533, 0x02C5_853B];
+    assert_eq!(added.map(family), [8, 9, 10, 11]);
 }
 
 /// examples/c/step.c by the C compiler, so that the header is read by one.

@@ -4,12 +4,14 @@
 use super::{expected, Trap};
 use crate::map::{Entry, PageMap};
 use crate::state::State;
+use formats::extensions::{drawn, ABSENT};
 use sporhulma::{word, Hart};
 use std::collections::BTreeSet;
 
-/// Memories to try, and harts and maps with each: every kind of trap and every rule comes up often in so many.
-const MEMORIES: usize = 100;
-const HARTS: usize = 500;
+/// Memories to try, and harts and maps with each. Harts meet few of a memory's words, so it takes many memories until every
+/// kind of trap and every rule comes up.
+const MEMORIES: usize = 500;
+const HARTS: usize = 100;
 
 /// Marsaglia's xorshift: the same numbers in every run.
 struct Random(u64);
@@ -58,7 +60,7 @@ fn hart(random: &mut Random) -> Hart {
     }
     let (code, stack) = (random.address() & !3, random.address() & !7);
     let rest = &mut hart.rest;
-    rest[word::PC] = random.pick(&[0x1000, 0x1000, 0x1004, 0x1010, code]);
+    rest[word::PC] = random.pick(&[0x1000, 0x1000, 0x1004, 0x1010, 0x8000_0010, code]);
     rest[word::MODE] = random.pick(&[0, 0, 1, 3]);
     rest[word::ELP] = random.pick(&[0, 0, 0, 1]);
     rest[word::SSP] = random.pick(&[0x2000, 0x2ff8, 0x3000, stack]);
@@ -96,7 +98,7 @@ fn instruction(random: &mut Random) -> u32 {
     let csr = random.pick(&[
         0x011, 0x100, 0x105, 0x180, 0x300, 0x342, 0x747, 0xc00, 0x10b,
     ]);
-    match random.below(13) {
+    match random.below(15) {
         0 => random.pick(&[0xce10_4073, 0xce50_4073, 0xcdc0_c073, 0xcdc2_c073]),
         1 => random.pick(&[
             0x0000_0073,
@@ -111,6 +113,8 @@ fn instruction(random: &mut Random) -> u32 {
         4 => free & 0x00ff_ff80 | random.pick(&[0x03, 0x23]),
         5 => random.pick(&[0x0000_0017, 0x8000_0017, 0x0000_1017, 0x0000_2017]), // lpad
         6 => free,
+        7 => drawn(random.next()).with(free),
+        8 => random.pick(&ABSENT).with(free),
         _ => free & !0x7f | opcode,
     }
 }

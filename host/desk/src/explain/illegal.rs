@@ -4,6 +4,7 @@ use super::{family, flow, Verdict};
 use crate::json::Json;
 use crate::names::{mode_name, M, U};
 use disasm::Word;
+use formats::extensions::absent;
 use sporhulma::{word, Hart};
 
 /// The address of the CSR ssp, which has a rule of its own.
@@ -63,17 +64,21 @@ fn csr(hart: &Hart, address: u16) -> Option<String> {
 
 /// A word that is no instruction of the hart, and what it looks like.
 fn unknown(word: u32) -> String {
+    const UNKNOWN: &str = "no instruction of this hart has this word";
+    if let Some(absent) = absent(word) {
+        let name = absent.name.to_uppercase();
+        return format!("{UNKNOWN}; it looks like {name} ({})", absent.extension);
+    }
     let funct3 = word >> 12 & 7;
     let looks = match word & 0x7f {
         _ if word == 0 => "it is empty memory: the program ran into a place where no code is",
         _ if word & 3 != 3 => "its two low bits are not 11, as in a 16-bit instruction (C)",
-        0x33 | 0x3b if word >> 25 == 1 => "it looks like a multiplication or division (M)",
         0x2f => "it looks like an atomic memory operation (A)",
         0x07 | 0x27 | 0x43 | 0x47 | 0x4b | 0x4f | 0x53 => "it looks like floating point (F or D)",
         0x0f if funct3 == 1 => "it looks like FENCE.I",
         0x73 if word == 0x1050_0073 => "it is WFI",
         0x73 if word >> 25 == 0b000_1001 && funct3 == 0 => "it looks like SFENCE.VMA",
-        _ => return "no instruction of this hart has this word".into(),
+        _ => return UNKNOWN.into(),
     };
-    format!("no instruction of this hart has this word; {looks}")
+    format!("{UNKNOWN}; {looks}")
 }

@@ -151,6 +151,19 @@ impl World {
     }
 }
 
+/// x3 after the word with x1 and x2 set; nothing else but pc may have changed.
+#[track_caller]
+pub fn result(word: u32, x1: u64, x2: u64) -> u64 {
+    let mut w = world(USER);
+    (w.h.x[1], w.h.x[2]) = (x1, x2);
+    let mut after = w.clone();
+    w.passes(word);
+    after.h.x[3] = w.h.x[3];
+    after.h.pc += 4;
+    assert_eq!(w, after, "{word:#x}");
+    w.h.x[3]
+}
+
 pub fn quiet(count: u64) -> Answer {
     Answer {
         refusal: 0,
@@ -178,11 +191,11 @@ pub fn refused(refusal: u64) -> Answer {
     }
 }
 
-pub fn i_word(opcode: u32, funct3: u32, rd: u32, rs1: u32, immediate: i32) -> u32 {
+pub const fn i_word(opcode: u32, funct3: u32, rd: u32, rs1: u32, immediate: i32) -> u32 {
     (immediate as u32) << 20 | rs1 << 15 | funct3 << 12 | rd << 7 | opcode
 }
 
-pub fn r_word(opcode: u32, funct3: u32, funct7: u32, rd: u32, rs1: u32, rs2: u32) -> u32 {
+pub const fn r_word(opcode: u32, funct3: u32, funct7: u32, rd: u32, rs1: u32, rs2: u32) -> u32 {
     funct7 << 25 | rs2 << 20 | rs1 << 15 | funct3 << 12 | rd << 7 | opcode
 }
 
