@@ -17,6 +17,7 @@ FACTS = re.compile(
             r"as printed, the two types (?:first )?differ",
             r"computed as far as they go, the two types (?:first )?differ",
             r"expected type `.*(?:\n.*)*?but this has type",
+            r"≟ `.*(?:\n.*)*?does not hold",  # two terms, compared where a `_` had to be found first
             r"the goal does not follow from what it read",
             r"what it leaves must be a path whose two ends are equal",
             r"`cc` met a bound of its own before the equations had joined",

@@ -9,9 +9,18 @@ use Rattle.quick.proofs.compute.op.Tie as tie
 
 returns : tie.Need-returns
 returns c =
+    let told = c .before .before .before .before in
+    let second = told .before in
+    let first = second .before .before in
     λ pad.
-    value-does _ _ _ _ _ _ _ _ _ _ pad _ _ (ap opOf (c .before .before .before .before .before .before .before .before .before .split .ensures))
-    (c .before .before .before .before .op .ensures) (c .before .before .before .if1 .taken) (c .before .before .before .before .before .before .before .reg .ensures) (c .before .before .before .before .before .reg2 .ensures) (c .before .sum .ensures) (c .wrote .ensures)
+    value-does _ _ _ _ _ _ _ _ _ _ pad _ _
+    (ap opOf (first .before .before .split .ensures))
+    (told .op .ensures)
+    (c .before .before .before .if1 .taken)
+    (first .reg .ensures)
+    (second .reg2 .ensures)
+    (c .before .sum .ensures)
+    (c .wrote .ensures)
 
 pub op-spec : {M : Type 1} → statement M
 op-spec =

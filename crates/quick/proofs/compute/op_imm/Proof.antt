@@ -8,9 +8,17 @@ use Rattle.quick.proofs.compute.op_imm.Tie as tie
 
 returns : tie.Need-returns
 returns c =
+    let told = c .before .before .before .before in
+    let first = told .before .before in
     λ pad.
-    value-does _ _ _ _ _ _ _ _ _ _ pad _ _ (rw (c .before .before .before .before .before .imm-i .ensures, c .before .before .before .before .before .before .before .before .split .ensures))
-    (c .before .before .before .before .op-imm .ensures _) (c .before .before .before .if1 .taken) (c .before .before .before .before .before .before .reg .ensures) refl (c .before .sum .ensures) (c .wrote .ensures)
+    value-does _ _ _ _ _ _ _ _ _ _ pad _ _
+    (rw (told .before .imm-i .ensures, first .before .before .split .ensures))
+    (told .op-imm .ensures _)
+    (c .before .before .before .if1 .taken)
+    (first .reg .ensures)
+    refl
+    (c .before .sum .ensures)
+    (c .wrote .ensures)
 
 pub op-imm-spec : {M : Type 1} → statement M
 op-imm-spec =
