@@ -52,11 +52,9 @@ shadow-bits sse r w x d e =
 
 rights : (k : Kind) (sse mxr r w x u d : Bool) → Grants k sse mxr (page r w x u d)
 rights Fetch sse mxr r w false u d e = cc
-rights Fetch sse mxr false true true u d e = cc
-rights Fetch true mxr true true true u d e = refl
+rights Fetch sse mxr r true true u d e = cc
 rights Fetch true mxr true false true u d e = refl
 rights Fetch true mxr false false true u d e = refl
-rights Fetch false mxr true true true u d e = refl
 rights Fetch false mxr true false true u d e = refl
 rights Fetch false mxr false false true u d e = refl
 rights Load sse mxr false w x u d e = cc

@@ -1,6 +1,6 @@
 -- The usual grant: what most accesses are granted on, by fewer tests than steps 5 to 8. Whatever it grants, those steps grant
 -- (`usual-granted` in proofs/Shortcut.antt); of the rest it says nothing.
-use mathlib.Core.Bool.{Bool, false, _&&_, _||_, not}
+use mathlib.Core.Bool.{Bool, false, _&&_, not}
 use Rattle.page.specs.declared.Kind.the-variants.{Fetch, Load, Store, Push, Pop, Swap}
 use Rattle.page.specs.declared.Kind.{Kind}
 use Rattle.page.specs.declared.Mode.the-variants.{User, Supervisor, Machine}
@@ -18,9 +18,9 @@ usualUser User u = u
 usualUser Supervisor u = not u
 usualUser Machine u = false
 
--- X, and no W without R
-abbrev pub usualFetch : (r w x : Bool) → Bool
-usualFetch r w x = x && (not w || r)
+-- X without W, as code is mapped: with V, A and the upper bits this is one comparison of the word under a mask
+abbrev pub usualFetch : (w x : Bool) → Bool
+usualFetch w x = x && not w
 
 abbrev pub usualStore : (r w d : Bool) → Bool
 usualStore r w d = w && (r && d)
@@ -30,7 +30,7 @@ abbrev pub usualShadow : (sse r w x d : Bool) → Bool
 usualShadow sse r w x d = sse && (d && (w && (not r && not x)))
 
 abbrev pub usualRight : (sse : Bool) → Kind → Leaf → Bool
-usualRight sse Fetch l = usualFetch (l .r) (l .w) (l .x)
+usualRight sse Fetch l = usualFetch (l .w) (l .x)
 usualRight sse Load l = l .r
 usualRight sse Store l = usualStore (l .r) (l .w) (l .d)
 usualRight sse Push l = usualShadow sse (l .r) (l .w) (l .x) (l .d)

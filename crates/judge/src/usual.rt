@@ -30,14 +30,11 @@ fn user(mode: Mode, u: bool) -> bool
     }
 }
 
-fn fetch(r: bool, w: bool, x: bool) -> bool
-    ensures { λ b. ⌜ b ≡ usualFetch r w x ⌝ }
+fn fetch(w: bool, x: bool) -> bool
+    ensures { λ b. ⌜ b ≡ usualFetch w x ⌝ }
 {
     if x {
-        if w {
-            return r;
-        }
-        return true;
+        return !w;
     }
     false
 }
@@ -74,7 +71,7 @@ fn right(sse: bool, k: Kind, e: u64) -> bool
     ensures { λ b. ⌜ b ≡ usualRight sse k (leafOf e) ⌝ }
 {
     match k {
-        Kind::Fetch => fetch(e / 2 % 2 == 1, e / 4 % 2 == 1, e / 8 % 2 == 1),
+        Kind::Fetch => fetch(e / 4 % 2 == 1, e / 8 % 2 == 1),
         Kind::Load => e / 2 % 2 == 1,
         Kind::Store => store(e / 2 % 2 == 1, e / 4 % 2 == 1, e / 128 % 2 == 1),
         Kind::Push => shadow(

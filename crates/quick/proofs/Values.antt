@@ -2,16 +2,14 @@
 -- Assumes nothing.
 use mathlib.Core.Bool.{Bool, true, false}
 use mathlib.Core.List.{List}
-use mathlib.Core.Path.{_≡_, refl, sym, ap, _∙_}
+use mathlib.Core.Path.{_≡_, sym, ap, _∙_}
 use Prim.Native.Nat.{ℕ}
 use Rattle.word.specs.declared.field.Fields.{Fields}
 use Rattle.isa.specs.declared.Instruction.{Instruction}
 use Rattle.effect.specs.Register.{regOf, putOf}
-use Rattle.effect.specs.declared.Effect.{Effect}
 use Rattle.effect.specs.declared.Effect.the-variants.{Write}
-use Rattle.effect.specs.declared.Setting.{Setting}
 use Rattle.meaning.specs.Instruction.{nextOf, executeOf}
-use Rattle.quick.specs.Quick.{Does, Computes, Writes}
+use Rattle.quick.specs.Quick.{Computes, Writes}
 use Rattle.quick.specs.declared.Tried.{Tried}
 use Rattle.quick.specs.declared.value.Value.{Value}
 use Rattle.quick.proofs.Ways.{wrote-does}

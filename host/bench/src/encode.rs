@@ -1,10 +1,14 @@
 //! Words of the few instructions that the benchmark's programs use, under their names.
 
-use formats::{b, i, j, r, s, JALR, LOAD, OP, OP_32, OP_IMM, STORE, SYSTEM};
+use formats::{b, i, j, r, s, JALR, LOAD, OP, OP_32, OP_IMM, OP_IMM_32, STORE, SYSTEM};
 pub use formats::{ECALL, MRET};
 
 pub fn addi(rd: u32, rs1: u32, imm: i32) -> u32 {
     i(OP_IMM, 0, rd, rs1, imm as u64)
+}
+
+pub fn addiw(rd: u32, rs1: u32, imm: i32) -> u32 {
+    i(OP_IMM_32, 0, rd, rs1, imm as u64)
 }
 
 pub fn xori(rd: u32, rs1: u32, imm: i32) -> u32 {

@@ -1,14 +1,27 @@
 //! A fixed-point filter as a template with saturation writes it: a second-order section on samples of 32 bits, then a gain that follows
-//! the peak of each block of samples. Products, shifts, minimum and maximum, loads and stores; one division a block.
+//! the peak of each block of samples. Its inner loop is, instruction by instruction, what GCC 12 (-O2 -march=rv64im_zbb) makes of
+//!
+//! ```c
+//! for (int k = 0; k < n; k++) {
+//!     int32_t x = in[k];
+//!     int64_t sum = 1 << 29;
+//!     sum += (int64_t)f->c[0] * x + (int64_t)f->c[1] * x1 + .. + (int64_t)f->c[4] * y2;
+//!     int64_t y = clamp(sum >> 30);
+//!     x2 = x1; x1 = x; y2 = y1; y1 = y;
+//!     peak = max(peak, abs(y));
+//!     out[k] = clamp((int64_t)(((__int128)(y << 32) * gain) >> 64) >> 28);
+//! }
+//! ```
+//!
+//! Between two blocks there is one division, for the gain.
 
 use crate::encode::*;
 use crate::programs::{bare, entry, start_in_user, Program, PAGE, R, W, X};
 use sporhulma::BASE;
 
-/// Where these stand in the page of data: the section's coefficients (30 bits behind the point) and state (31), the gain (60), the
-/// samples of a block and what comes of them (31).
+/// Where these stand in the page of data: the section's coefficients (30 bits behind the point), the gain (60), the samples of a block
+/// and what comes of them (31).
 const COEFFICIENTS: i32 = 0;
-const STATE: i32 = 32;
 const GAIN: i32 = 48;
 const INPUT: i32 = 64;
 const OUTPUT: i32 = 128;
@@ -43,64 +56,84 @@ fn input(n: usize) -> i32 {
     }
 }
 
-/// To the sum in x15: the coefficient of this number by a register.
-fn term(number: i32, register: u32) -> [u32; 3] {
-    [
-        load(2, 14, 2, COEFFICIENTS + 4 * number),
-        mul(16, 14, register),
-        add(15, 15, 16),
-    ]
-}
+/// GCC's registers, by their numbers. The section's past is in T4 (x1), T0 (x2), T3 (y1) and T2 (y2).
+const T0: u32 = 5;
+const T1: u32 = 6;
+const T2: u32 = 7;
+const END: u32 = 8; // s0
+const UNIT: u32 = 9; // s1, half a unit of the sum, which rounds it
+const PEAK: u32 = 10; // a0
+const IN: u32 = 11; // a1
+const OUT: u32 = 12; // a2
+const A3: u32 = 13;
+const BY: u32 = 14; // a4, the gain
+const MOST: u32 = 15; // a5, the largest sample
+const A6: u32 = 16;
+const DATA: u32 = 17; // a7
+const S2: u32 = 18;
+const S3: u32 = 19;
+const T3: u32 = 28;
+const T4: u32 = 29;
+const T5: u32 = 30;
+const LEAST: u32 = 31; // t6, the smallest sample
+/// What the code between two blocks needs: FLOOR and HALF.
+const LOW: u32 = 20;
+const GOAL: u32 = 21;
 
-/// One sample, from x10 to the section's output in x15, and the state for the next one.
-fn section() -> Vec<u32> {
-    let mut code = vec![load(2, 5, 10, 0)];
-    code.extend((0..4).map(|k| load(2, 6 + k, 2, STATE + 4 * k as i32)));
-    code.push(addi(15, 23, 0));
-    code.extend((0..5).flat_map(|k| term(k, 5 + k as u32)));
-    code.extend([
-        srai(15, 15, 30),
-        min(15, 15, 12),
-        max(15, 15, 13),
-        store(2, 5, 2, STATE),
-        store(2, 6, 2, STATE + 4),
-        store(2, 15, 2, STATE + 8),
-        store(2, 8, 2, STATE + 12),
-    ]);
+/// The inner loop, which starts at its third instruction.
+fn samples() -> Vec<u32> {
+    let mut code = vec![
+        addi(T3, T1, 0),
+        addi(T4, T5, 0),
+        load(2, T5, IN, 0),
+        load(2, S3, DATA, COEFFICIENTS),
+        load(2, S2, DATA, COEFFICIENTS + 4),
+        load(2, T1, DATA, COEFFICIENTS + 8),
+        load(2, A6, DATA, COEFFICIENTS + 12),
+        mul(S3, S3, T5),
+        load(2, A3, DATA, COEFFICIENTS + 16),
+        addi(OUT, OUT, 4),
+        addi(IN, IN, 4),
+        mul(S2, S2, T4),
+        add(S3, S3, UNIT),
+        mul(T1, T1, T0),
+        add(S2, S2, S3),
+        addi(T0, T4, 0),
+        mul(A6, A6, T3),
+        add(T1, T1, S2),
+        mul(A3, A3, T2),
+        add(A6, A6, T1),
+        addi(T2, T3, 0),
+        add(A3, A3, A6),
+        srai(A3, A3, 30),
+        max(A3, A3, LEAST),
+        min(A3, A3, MOST),
+        slli(A6, A3, 32),
+        mulh(A6, A6, BY),
+        sub(S2, 0, A3),
+        addiw(T1, A3, 0),
+        max(A3, A3, S2),
+        max(PEAK, PEAK, A3),
+        srai(A3, A6, 28),
+        max(A3, A3, LEAST),
+        min(A3, A3, MOST),
+        store(2, A3, OUT, -4),
+    ];
+    code.push(bne(END, IN, -4 * code.len() as i32));
     code
 }
 
-/// x2 is the page of data; x10 and x11 go through the samples up to x18; x12 and x13 are the largest and the smallest sample; x20 is the
-/// block's peak; x21, x22 and x23 are FLOOR, HALF and half a unit of the sum, which rounds it.
+/// A block of samples, and then the gain for the next one.
 fn code() -> Vec<u32> {
-    let mut code = section();
+    let mut code = samples();
     code.extend([
-        // the peak
-        sub(19, 0, 15),
-        max(19, 19, 15),
-        max(20, 20, 19),
-        // the gain
-        load(3, 17, 2, GAIN),
-        slli(16, 15, 32),
-        mulh(16, 16, 17),
-        srai(16, 16, 28),
-        min(16, 16, 12),
-        max(16, 16, 13),
-        store(2, 16, 11, 0),
-        // the next sample
-        addi(10, 10, 4),
-        addi(11, 11, 4),
-    ]);
-    code.push(bne(10, 18, -4 * code.len() as i32));
-    // the gain for the next block
-    code.extend([
-        max(20, 20, 21),
-        div(17, 22, 20),
-        slli(17, 17, 28),
-        store(3, 17, 2, GAIN),
-        addi(20, 0, 0),
-        addi(10, 2, INPUT),
-        addi(11, 2, OUTPUT),
+        max(PEAK, PEAK, LOW),
+        div(BY, GOAL, PEAK),
+        slli(BY, BY, 28),
+        store(3, BY, DATA, GAIN),
+        addi(PEAK, 0, 0),
+        addi(IN, DATA, INPUT),
+        addi(OUT, DATA, OUTPUT),
     ]);
     code.push(jal(0, -4 * code.len() as i32));
     code
@@ -110,21 +143,21 @@ fn code() -> Vec<u32> {
 fn filter(name: &'static str, data: u64) -> Program {
     let mut program = bare(name, &code());
     let x = &mut program.hart.x;
-    x[2] = data;
-    x[10] = data + INPUT as u64;
-    x[11] = data + OUTPUT as u64;
-    x[12] = i32::MAX as u64;
-    x[13] = i32::MIN as u64;
-    x[18] = x[10] + 4 * BLOCK as u64;
-    x[21] = FLOOR;
-    x[22] = HALF;
-    x[23] = 1 << 29;
+    x[DATA as usize] = data;
+    x[IN as usize] = data + INPUT as u64;
+    x[OUT as usize] = data + OUTPUT as u64;
+    x[MOST as usize] = i32::MAX as u64;
+    x[LEAST as usize] = i32::MIN as u64;
+    x[END as usize] = data + INPUT as u64 + 4 * BLOCK as u64;
+    x[LOW as usize] = FLOOR;
+    x[GOAL as usize] = HALF;
+    x[UNIT as usize] = 1 << 29;
+    x[BY as usize] = 1 << 60;
     let mut put = |at: i32, bytes: &[u8]| {
         let at = PAGE + at as usize;
         program.memory[at..at + bytes.len()].copy_from_slice(bytes);
     };
     put(COEFFICIENTS, &SECTION.map(i32::to_le_bytes).concat());
-    put(GAIN, &(1u64 << 60).to_le_bytes());
     for n in 0..BLOCK {
         put(INPUT + 4 * n as i32, &input(n).to_le_bytes());
     }
@@ -190,14 +223,15 @@ mod tests {
                 output: [0; BLOCK],
                 clipped: 0,
             };
-            let steps = BLOCK * (code().len() - BEHIND) + BEHIND;
+            let steps = BLOCK * samples().len() + BEHIND;
             for _ in 0..20 {
                 plain.block();
                 let answer = sporhulma::run(&mut p.hart, &mut p.memory, &p.map, steps as u64);
                 assert_eq!((answer.refusal, answer.trapped), (0, false));
                 let data = &p.memory[PAGE..];
                 let at = |from: i32, count: usize| &data[from as usize..from as usize + count];
-                assert_eq!(at(STATE, 16), plain.state.map(i32::to_le_bytes).concat());
+                let past = [T5, T0, T1, T2].map(|r| p.hart.x[r as usize] as i32);
+                assert_eq!(past, plain.state);
                 assert_eq!(at(GAIN, 8), plain.gain.to_le_bytes());
                 assert_eq!(at(OUTPUT, 64), plain.output.map(i32::to_le_bytes).concat());
             }
