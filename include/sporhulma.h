@@ -65,8 +65,8 @@ uint64_t sporhulma_run(uint64_t x[32], uint64_t rest[20], uint8_t *mem, size_t m
                        uint64_t budget, uint64_t answer[3]);
 
 /* The decoder's verdict on a word (in libfamily.a): 0 illegal, 1 LUI, 2 AUIPC, 3 JAL, 4 JALR, 5 branch, 6 load, 7 store, 8 OP-IMM,
- * 9 OP-IMM-32, 10 OP, 11 OP-32, 12 FENCE, 13 ECALL, 14 EBREAK, 15 SRET, 16 MRET, 17 CSR instruction, 18 read of ssp, 19 shadow push,
- * 20 shadow pop-check, 21 shadow swap, 22 another MOP.R word, 23 another MOP.RR word. */
+ * 9 OP-IMM-32, 10 OP, 11 OP-32 (M and Zbb are among 8 to 11), 12 FENCE, 13 ECALL, 14 EBREAK, 15 SRET, 16 MRET, 17 CSR instruction,
+ * 18 read of ssp, 19 shadow push, 20 shadow pop-check, 21 shadow swap, 22 another MOP.R word, 23 another MOP.RR word. */
 uint64_t sporhulma_family(uint32_t word);
 
 #ifdef __cplusplus
