@@ -2,7 +2,7 @@
 //!
 //! It is written from document 01, the requests of document 02 and the RISC-V manuals, and not from the
 //! proved simulator, so that the two can be held against each other. It works by reference: a call changes the hart and the
-//! memory that it is lent. The calls are in `run`; the other files hold one subject each.
+//! memory that it is lent. The calls are in `run`, loading a text in Intel HEX is in `hex`; the other files hold one subject each.
 
 mod alu;
 mod bits;
@@ -11,6 +11,7 @@ mod decode;
 mod execute;
 mod fields;
 mod hart;
+mod hex;
 mod memory;
 mod multiply;
 mod pads;
@@ -22,4 +23,5 @@ mod trap;
 
 pub use decode::family;
 pub use hart::Hart;
+pub use hex::{load_hex, Loaded};
 pub use run::{run, step, step_word, Answer};

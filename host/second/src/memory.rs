@@ -1,5 +1,8 @@
 //! The bytes of memory: little-endian reads and writes of one width at a place that was allowed.
 
+/// The physical address of the first byte.
+pub const MEMORY_START: u64 = 0x8000_0000;
+
 #[derive(Clone, Copy, PartialEq, Eq, Debug)]
 pub enum Width {
     Byte,

@@ -62,7 +62,8 @@ fn masking_is_possible(value: u64, fields: u64) -> bool {
     value & !fields == 0 && (value & PMM) >> PMM_SHIFT != 1
 }
 
-fn memory_fits(mem: &[u8]) -> bool {
+/// Whether memory has a length that every call takes.
+pub fn memory_fits(mem: &[u8]) -> bool {
     !mem.is_empty() && mem.len() % PAGE_BYTES == 0 && mem.len() <= MOST_MEMORY
 }
 

@@ -5,10 +5,8 @@
 
 use crate::bits::*;
 use crate::hart::{Hart, MACHINE, SUPERVISOR, USER};
-use crate::memory::Width;
+use crate::memory::{Width, MEMORY_START};
 use crate::trap::*;
-
-const MEMORY_START: u64 = 0x8000_0000;
 
 /// The bits of a map entry, which is laid out as an Sv39 leaf.
 const V: u64 = 1 << 0;
