@@ -47,14 +47,19 @@ impl Case {
         }
     }
 
-    /// Fills memory with `len` bytes that differ from place to place: `first`, then each eight bytes `stride` more.
+    /// Fills memory as `fill` does.
     pub fn fill(&mut self, len: usize, first: u64, stride: u64) {
-        self.mem.clear();
-        self.mem.resize(len, 0);
-        let mut word = first;
-        for eight in self.mem.chunks_exact_mut(8) {
-            eight.copy_from_slice(&word.to_le_bytes());
-            word = word.wrapping_add(stride);
-        }
+        fill(&mut self.mem, len, first, stride);
+    }
+}
+
+/// Fills a memory with `len` bytes that differ from place to place: `first`, then each eight bytes `stride` more.
+pub fn fill(mem: &mut Vec<u8>, len: usize, first: u64, stride: u64) {
+    mem.clear();
+    mem.resize(len, 0);
+    let mut word = first;
+    for eight in mem.chunks_exact_mut(8) {
+        eight.copy_from_slice(&word.to_le_bytes());
+        word = word.wrapping_add(stride);
     }
 }

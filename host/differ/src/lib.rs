@@ -5,13 +5,14 @@
 //! the mix, `text` writes a case as text and reads it back, and `decoder` compares the verdict on all 2^32 words.
 //! For request A3 `multiply` and `operands` make instructions at their corners, and `added` counts these.
 //! For request A13 `hidden` makes pairs of memories that differ where a user's program may not reach, `twins` looks whether
-//! anything of it shows, and `seen` counts what the pairs were.
+//! anything of it shows, and `seen` counts what the pairs were. For request A7 `hex` holds the readers of Intel HEX against each other.
 
 pub mod added;
 pub mod again;
 pub mod case;
 pub mod csr;
 pub mod decoder;
+pub mod hex;
 pub mod hidden;
 pub mod instruction;
 pub mod lifted;

@@ -2,6 +2,10 @@
 
 use differ::case::Case;
 use differ::decoder;
+use differ::hex;
+use differ::hex::check::Check;
+use differ::hex::make::{Made, Sort};
+use differ::hex::soak::Texts;
 use differ::mix::FAMILIES;
 use differ::options::{parse, Amounts, Command, HELP};
 use differ::pair::Pair;
@@ -27,11 +31,13 @@ const TEST: Amounts = Amounts {
     runs: Some(20_000),
     pairs: Some(100_000),
 };
+const TEST_TEXTS: Option<u64> = Some(100_000);
 
 /// Cases between two looks at the clock.
 const STEPS_AT_ONCE: u64 = 5_000;
 const RUNS_AT_ONCE: u64 = 100;
 const PAIRS_AT_ONCE: u64 = 500;
+const TEXTS_AT_ONCE: u64 = 1_000;
 
 fn main() -> ExitCode {
     let args: Vec<String> = std::env::args().skip(1).collect();
@@ -51,6 +57,12 @@ fn main() -> ExitCode {
         }
         Command::AgainFile(file) => again_file(&file),
         Command::Again { seed, name } => again(seed, name),
+        Command::Texts { count, seed } => {
+            let texts = texts(seed, count);
+            status(texts.failures.is_empty())
+        }
+        Command::AgainText { seed, number } => again_text(seed, number),
+        Command::TextFile { file, memory } => text_file(&file, memory),
         Command::Decoder => decoder(),
     }
 }
@@ -101,13 +113,15 @@ impl Progress {
 
 fn test() -> ExitCode {
     let soak = soak(TEST_SEED, TEST);
+    let texts = texts(TEST_SEED, TEST_TEXTS);
     let mut complaints = soak.mix.complaints(true);
     complaints.extend(soak.seen.complaints());
+    complaints.extend(texts.seen.complaints());
     // A test that ended early because of differences has seen little: only these are said then.
-    if !complaints.is_empty() && !soak.done() {
+    if !complaints.is_empty() && !soak.done() && !texts.done() {
         say!("differ: FAILED: {}", complaints.join("; "));
     }
-    status(complaints.is_empty() && soak.failures.is_empty())
+    status(complaints.is_empty() && soak.failures.is_empty() && texts.failures.is_empty())
 }
 
 /// The cases of one kind: how many are made, how many are wanted, and how long they took.
@@ -186,6 +200,33 @@ fn soak(seed: u64, amounts: Amounts) -> Soak<Proved, Second> {
     soak
 }
 
+/// Texts one after the other. Prints what they were and the verdict.
+fn texts(seed: u64, wanted: Option<u64>) -> Texts<Proved, Second> {
+    let mut texts = Texts::new(Proved, Second, seed);
+    let mut progress = Progress::new();
+    let (mut made, mut printed) = (0, 0);
+    while !texts.done() && wanted.is_none_or(|wanted| made < wanted) {
+        let end = made + TEXTS_AT_ONCE;
+        while !texts.done() && made < wanted.unwrap_or(end).min(end) {
+            texts.text(made);
+            made += 1;
+        }
+        for failure in &texts.failures[printed..] {
+            progress.clear();
+            print_text(failure);
+        }
+        printed = texts.failures.len();
+        progress.show(|| format!("{made} texts, {printed} differences"));
+    }
+    progress.clear();
+    say!("{}", texts.seen.text().trim_end());
+    say!(
+        "differ: {printed} differences in {made} texts of seed {seed}, {:.1} s",
+        progress.start.elapsed().as_secs_f64()
+    );
+    texts
+}
+
 /// Where failing cases are written: target/differ of the repository that this was built in.
 fn folder() -> PathBuf {
     Path::new(env!("CARGO_MANIFEST_DIR")).join("../../target/differ")
@@ -212,6 +253,61 @@ fn print_failure(failure: &Failure) {
             folder().display()
         ),
     }
+}
+
+fn print_text(failure: &hex::soak::Failure) {
+    say!("DIFFERENCE: {}", failure.title());
+    for line in &failure.differences {
+        say!("    {line}");
+    }
+    say!("  again: {}", failure.again());
+    let memory = failure.made.memory.len();
+    match failure.save(&folder()) {
+        Ok(path) => {
+            let path = path.canonicalize().unwrap_or(path);
+            let path = path.display();
+            say!("  the text alone: tools/differ hex {path} --memory {memory}");
+        }
+        Err(error) => say!(
+            "  its text could not be written to {}: {error}",
+            folder().display()
+        ),
+    }
+}
+
+fn again_text(seed: u64, number: u64) -> ExitCode {
+    let mut texts = Texts::new(Proved, Second, seed);
+    texts.text(number);
+    texts.failures.iter().for_each(print_text);
+    if texts.failures.is_empty() {
+        say!("differ: no difference in text {number} of seed {seed}");
+    }
+    status(texts.failures.is_empty())
+}
+
+fn text_file(file: &str, memory: usize) -> ExitCode {
+    let text = match std::fs::read(file) {
+        Ok(text) => text,
+        Err(error) => return usage(&format!("{file}: cannot be read: {error}")),
+    };
+    let made = Made {
+        memory: vec![0x5A; memory],
+        text,
+        sort: Sort::Mutated,
+        features: Vec::new(),
+        lines: 0,
+        expected: None,
+    };
+    let mut check = Check::default();
+    let wrong = check.check(&Proved, &Second, &made);
+    match wrong.is_empty() {
+        true => say!("{file}: no difference: {}", check.left.answer_text()),
+        false => say!("{file}: DIFFERENCE"),
+    }
+    for line in &wrong {
+        say!("    {line}");
+    }
+    status(wrong.is_empty())
 }
 
 fn again(seed: u64, name: Name) -> ExitCode {

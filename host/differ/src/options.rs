@@ -6,15 +6,21 @@ use crate::text::number;
 pub const HELP: &str = "\
 differ: the proved simulator (left) against the second, independent one (right)
 
-  differ test                 1,000,000 steps, 20,000 runs and 100,000 pairs of a fixed seed; this is what ./test runs
+  differ test                 1,000,000 steps, 20,000 runs, 100,000 pairs and 100,000 texts of a fixed seed;
+                              this is what ./test runs
   differ soak [--steps N] [--runs N] [--pairs N] [--seed S]
                               any number (default 10,000,000, 200,000 and 1,000,000, seed 1);
                               0 means until stopped, and then no summary is printed
   differ pairs [--count N] [--seed S]
                               pairs alone (default 100,000, seed 1)
+  differ hex [--count N] [--seed S]
+                              texts in Intel HEX (default 1,000,000, seed 1; 0 means until stopped)
+  differ hex FILE [--memory BYTES]
+                              the text in a file, with so many bytes of memory (default 1,048,576)
   differ again FILE           one case from the file that a failure wrote
   differ again --seed S --case N
-                              step N of a seed; --run N or --pair N in place of --case N: run N, pair N of a seed
+                              step N of a seed; --run N, --pair N or --text N in place of --case N: run, pair or
+                              text N of a seed
   differ decoder              the decoder's verdict on all 2^32 words, on all cores
   differ --help               this text
 
@@ -22,10 +28,14 @@ A pair (request A13) is a user's hart and map with two memories that differ in e
 entry with U names: on each simulator the calls must answer alike with both, up to and including the first trap, and
 leave the named frames alike and the other ones as they were. Beside that the two simulators must agree on each memory.
 
-A difference is printed with the words and bytes that differ and the command that runs its case again; its case is
+A text (request A7) is good, damaged in one of the ways that the request names, or changed at random; the two readers must
+answer alike and leave the same bytes, and those for which a good or damaged text was made.
+
+A difference is printed with the words and bytes that differ and the command that runs its case again; its case or text is
 written to target/differ/. After 5 differences the command ends.
-Exit status: 0 no difference, 1 a difference (for test also: a kind of case that was not seen, or under 60 % of the pairs
-of three completed steps and more with a load and a store that reached memory), 2 wrong usage.
+Exit status: 0 no difference, 1 a difference (for test also: a kind of case or text that was not seen, under 60 % of the
+pairs of three completed steps and more with a load and a store that reached memory, or under 40 % of the texts loaded),
+2 wrong usage.
 ";
 
 #[derive(Debug, PartialEq, Eq)]
@@ -35,6 +45,9 @@ pub enum Command {
     Soak { amounts: Amounts, seed: u64 },
     AgainFile(String),
     Again { seed: u64, name: Name },
+    AgainText { seed: u64, number: u64 },
+    Texts { count: Option<u64>, seed: u64 },
+    TextFile { file: String, memory: usize },
     Decoder,
 }
 
@@ -46,6 +59,11 @@ pub struct Amounts {
     pub pairs: Option<u64>,
 }
 
+const COMMANDS: &str = "right is test, soak, pairs, hex, again, decoder or --help";
+
+/// A text may ask for no more memory than a little over the most that is accepted.
+const MOST_MEMORY: u64 = 0x20_0000;
+
 /// Reads the arguments; an error is one line that says what would be right.
 pub fn parse(args: &[String]) -> Result<Command, String> {
     let args: Vec<&str> = args.iter().map(String::as_str).collect();
@@ -55,15 +73,15 @@ pub fn parse(args: &[String]) -> Result<Command, String> {
         ["decoder"] => Ok(Command::Decoder),
         ["soak", ref options @ ..] => soak(options),
         ["pairs", ref options @ ..] => pairs(options),
+        ["hex", file, ref options @ ..] if !file.starts_with('-') => text_file(file, options),
+        ["hex", ref options @ ..] => texts(options),
         ["again", file] if !file.starts_with('-') => Ok(Command::AgainFile(file.to_string())),
         ["again", ref options @ ..] => again(options),
-        [] => Err("no command: right is test, soak, pairs, again, decoder or --help".to_string()),
+        [] => Err(format!("no command: {COMMANDS}")),
         [command @ ("test" | "decoder"), extra, ..] => Err(format!(
             "'{command}' takes no argument, and '{extra}' is one"
         )),
-        [command, ..] => Err(format!(
-            "'{command}' is no command: right is test, soak, pairs, again, decoder or --help"
-        )),
+        [command, ..] => Err(format!("'{command}' is no command: {COMMANDS}")),
     }
 }
 
@@ -118,13 +136,38 @@ fn pairs(options: &[&str]) -> Result<Command, String> {
     })
 }
 
+fn texts(options: &[&str]) -> Result<Command, String> {
+    let [count, seed] = values(options, ["--count", "--seed"])?;
+    Ok(Command::Texts {
+        count: amount(count, 1_000_000),
+        seed: seed.unwrap_or(1),
+    })
+}
+
+fn text_file(file: &str, options: &[&str]) -> Result<Command, String> {
+    let [memory] = values(options, ["--memory"])?;
+    match memory.unwrap_or(0x10_0000) {
+        memory if memory > MOST_MEMORY => Err(format!(
+            "--memory: {memory} bytes are not lent here: right is {MOST_MEMORY} at most"
+        )),
+        memory => Ok(Command::TextFile {
+            file: file.to_string(),
+            memory: memory as usize,
+        }),
+    }
+}
+
 fn again(options: &[&str]) -> Result<Command, String> {
     let right =
-        "right is 'again FILE' or 'again --seed S' with '--case N', '--run N' or '--pair N'";
-    let (seed, name) = match values(options, ["--seed", "--case", "--run", "--pair"])? {
-        [Some(seed), Some(step), None, None] => (seed, Name::Step(step)),
-        [Some(seed), None, Some(run), None] => (seed, Name::Run(run)),
-        [Some(seed), None, None, Some(pair)] => (seed, Name::Pair(pair)),
+        "right is 'again FILE' or 'again --seed S' with '--case N', '--run N', '--pair N' or '--text N'";
+    let names = ["--seed", "--case", "--run", "--pair", "--text"];
+    let (seed, name) = match values(options, names)? {
+        [Some(seed), Some(step), None, None, None] => (seed, Name::Step(step)),
+        [Some(seed), None, Some(run), None, None] => (seed, Name::Run(run)),
+        [Some(seed), None, None, Some(pair), None] => (seed, Name::Pair(pair)),
+        [Some(seed), None, None, None, Some(number)] => {
+            return Ok(Command::AgainText { seed, number })
+        }
         _ => return Err(format!("'again' does not know which case: {right}")),
     };
     Ok(Command::Again { seed, name })
@@ -170,6 +213,25 @@ mod tests {
             })
         );
         assert_eq!(
+            parsed("hex --count 0 --seed 4"),
+            Ok(Command::Texts {
+                count: None,
+                seed: 4
+            })
+        );
+        let file = |memory| {
+            Ok(Command::TextFile {
+                file: "a.hex".to_string(),
+                memory,
+            })
+        };
+        assert_eq!(parsed("hex a.hex"), file(1 << 20));
+        assert_eq!(parsed("hex a.hex --memory 0"), file(0));
+        assert_eq!(
+            parsed("again --seed 3 --text 9"),
+            Ok(Command::AgainText { seed: 3, number: 9 })
+        );
+        assert_eq!(
             parsed("again a.case"),
             Ok(Command::AgainFile("a.case".to_string()))
         );
@@ -208,6 +270,14 @@ mod tests {
             ("soak --seed 1 --seed 2", "--seed is given twice"),
             ("soak --cases 5", "'--cases' is no option here"),
             ("pairs --steps 5", "'--steps' is no option here"),
+            ("hex --steps 5", "'--steps' is no option here"),
+            ("hex --count", "--count needs a number"),
+            ("hex a.hex b.hex", "'b.hex' is no option here"),
+            ("hex a.hex --count 1", "'--count' is no option here"),
+            (
+                "hex a.hex --memory 0x200001",
+                "--memory: 2097153 bytes are not lent here",
+            ),
             ("again", "'again' does not know which case"),
             ("again --seed 1", "'again' does not know which case"),
             (
@@ -216,6 +286,10 @@ mod tests {
             ),
             (
                 "again --seed 1 --run 2 --pair 3",
+                "'again' does not know which case",
+            ),
+            (
+                "again --seed 1 --pair 2 --text 3",
                 "'again' does not know which case",
             ),
             ("again a b", "'a' is no option here"),

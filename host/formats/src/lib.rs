@@ -1,9 +1,10 @@
 //! Words of the base formats from their fields, as the unprivileged manual draws them: what differ, outside and bench make
 //! their programs with. The second simulator does not use it. `extensions` has the instructions of M and Zbb by name and those
-//! beside them, by which the desk names an illegal word; `corners` has what they are tried with.
+//! beside them, by which the desk names an illegal word; `corners` has what they are tried with. `hex` writes Intel HEX.
 
 pub mod corners;
 pub mod extensions;
+pub mod hex;
 
 pub const LOAD: u32 = 0x03;
 pub const MISC_MEM: u32 = 0x0F;
