@@ -1,15 +1,16 @@
 //! The help: of the desk, and of each command.
 
 use crate::failure::Failure;
+use crate::intel_hex::write;
 use crate::options::{nearest, Spec};
 use crate::text::wrapped;
 use crate::{demonstrate, frames, run_options, words};
 
 /// The commands with a line about each.
-pub const COMMANDS: [(&str, &str); 5] = [
+pub const COMMANDS: [(&str, &str); 6] = [
     (
         "run",
-        "run a raw image on the proved hart and say where and why it stopped",
+        "run a raw image or an Intel HEX file on the proved hart and say where and why it stopped",
     ),
     (
         "frames",
@@ -20,6 +21,7 @@ pub const COMMANDS: [(&str, &str); 5] = [
         "the incident: one program with the shadow stack off and on, and torque.svg",
     ),
     ("disasm", "the text of instruction words"),
+    ("hex", "write a raw image as Intel HEX"),
     (
         "help",
         "this, or with a command's name the help of that command",
@@ -33,6 +35,7 @@ Sporhulma's desk: run RV64 programs on a proved hart with shadow stack, landing 
   desk frames --map FILE [--memory SIZE] [--shadow-stack] [--json]
   desk demo [--svg FILE]
   desk disasm WORD...            desk disasm --image FILE [--at ADDRESS] [--words N]
+  desk hex IMAGE [-o FILE] [--at ADDRESS] [--length N] [--start ADDRESS]
   desk help [COMMAND]
 
 ";
@@ -46,8 +49,10 @@ Exit status: 0 all went as asked, 1 the desk itself failed (for instance a full 
 const RUN: &str = "\
 desk run IMAGE [options]
 
-The raw image is placed at the start of memory, physical 0x80000000. The hart starts in M at pc
-0x80000000 with all registers and CSRs 0, and stops at the first trap or when its steps are spent.
+A raw image is placed at the start of memory, physical 0x80000000, and an Intel HEX file where its
+records say, by physical address. Which it is is told by its content: a raw image does not start
+with a colon and hex pairs. The hart starts in M at pc 0x80000000 with all registers and CSRs 0, and
+stops at the first trap or when its steps are spent.
 
 ";
 
@@ -100,6 +105,14 @@ A WORD is 0x00a00513 or 00a00513.
 
 ";
 
+const HEX: &str = "\
+desk hex IMAGE [options]
+
+Writes a raw image as Intel HEX, which desk run and other tools load back to the same bytes: data
+records (type 00), upper addresses (04), the start address if one is given (05), the end (01).
+
+";
+
 /// The help of a command, or of the desk.
 pub fn text(command: Option<&str>) -> Result<String, Failure> {
     Ok(match command {
@@ -111,6 +124,7 @@ pub fn text(command: Option<&str>) -> Result<String, Failure> {
         Some("frames") => FRAMES.to_string() + &table(frames::OPTIONS) + FRAMES_EXAMPLES,
         Some("demo") => DEMO.to_string() + &table(demonstrate::OPTIONS),
         Some("disasm") => DISASM.to_string() + &table(words::OPTIONS),
+        Some("hex") => HEX.to_string() + &table(write::OPTIONS),
         Some(other) => return Err(unknown(other)),
     })
 }
@@ -119,7 +133,7 @@ pub fn text(command: Option<&str>) -> Result<String, Failure> {
 pub fn unknown(command: &str) -> Failure {
     let right = match nearest(command, COMMANDS.iter().map(|command| command.0)) {
         Some(near) => format!("did you mean {near}?"),
-        None => "the commands are run, frames, demo, disasm and help".into(),
+        None => "the commands are run, frames, demo, disasm, hex and help".into(),
     };
     Failure::at(command, format!("the desk has no such command; {right}"))
 }

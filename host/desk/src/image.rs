@@ -1,13 +1,18 @@
-//! Files that are read: raw images and texts.
+//! Files that are read: images and texts.
 
 use crate::failure::Failure;
+use crate::intel_hex::MOST;
 use crate::refusal::MEMORY;
 use std::fs::File;
 use std::io::Read;
 
 /// A raw image, at most as large as the largest memory.
 pub fn image(path: &str) -> Result<Vec<u8>, Failure> {
-    let bytes = bytes(path)?;
+    raw(path, bytes(path)?)
+}
+
+/// What a file holds, if it can be a raw image.
+pub fn raw(path: &str, bytes: Vec<u8>) -> Result<Vec<u8>, Failure> {
     match bytes.len() {
         0 => Err(Failure::at(
             path,
@@ -27,8 +32,8 @@ pub fn text(path: &str) -> Result<String, Failure> {
     String::from_utf8(bytes(path)?).map_err(wrong)
 }
 
-/// What a file holds, but no more than shows that it is too large.
-fn bytes(path: &str) -> Result<Vec<u8>, Failure> {
+/// What a file holds, but no more than shows that it is too large for all that the desk reads.
+pub fn bytes(path: &str) -> Result<Vec<u8>, Failure> {
     let wrong = |error: std::io::Error| {
         let why = match error.kind() {
             std::io::ErrorKind::NotFound => "there is no such file; check the path".to_string(),
@@ -42,8 +47,6 @@ fn bytes(path: &str) -> Result<Vec<u8>, Failure> {
     };
     let mut bytes = Vec::new();
     let file = File::open(path).map_err(wrong)?;
-    file.take(MEMORY + 1)
-        .read_to_end(&mut bytes)
-        .map_err(wrong)?;
+    file.take(MOST + 1).read_to_end(&mut bytes).map_err(wrong)?;
     Ok(bytes)
 }

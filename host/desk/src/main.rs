@@ -9,7 +9,9 @@ mod failure;
 mod frames;
 mod help;
 mod image;
+mod intel_hex;
 mod json;
+mod load;
 mod map;
 mod names;
 mod number;
@@ -29,6 +31,7 @@ mod trace;
 mod words;
 
 use failure::Failure;
+use intel_hex::write;
 use std::ffi::OsString;
 use std::io::{stderr, stdout, BufWriter, Write};
 use std::process::ExitCode;
@@ -70,7 +73,7 @@ fn arguments() -> Result<Vec<String>, Failure> {
 fn command(arguments: &[String], out: &mut dyn Write) -> Result<u8, Failure> {
     let Some((name, rest)) = arguments.split_first() else {
         return Err(Failure::Input(
-            "no command is given; write desk run, frames, demo, disasm or help".into(),
+            "no command is given; write desk run, frames, demo, disasm, hex or help".into(),
         ));
     };
     let asks_help = |argument: &String| ["--help", "-h"].contains(&argument.as_str());
@@ -85,6 +88,7 @@ fn command(arguments: &[String], out: &mut dyn Write) -> Result<u8, Failure> {
         "frames" => frames::run(&parse(frames::OPTIONS)?, out),
         "demo" => demonstrate::run(&parse(demonstrate::OPTIONS)?, out),
         "disasm" => words::run(&parse(words::OPTIONS)?, out),
+        "hex" => write::run(&parse(write::OPTIONS)?, out),
         "help" => {
             let places = parse(&[])?.places;
             if let [_, extra, ..] = places.as_slice() {

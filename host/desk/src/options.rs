@@ -40,6 +40,21 @@ impl Given {
             .map(|option| option.1.as_str())
     }
 
+    /// The one image that a command takes; `usage` is how the command is written.
+    pub fn image(&self, command: &str, usage: &str) -> Result<&str, Failure> {
+        match self.places.as_slice() {
+            [path] => Ok(path),
+            [] => {
+                let wrong = format!("the image is missing; write {usage}");
+                Err(Failure::at(command, wrong))
+            }
+            [one, other, ..] => {
+                let wrong = format!("two images, {one} and {other}; give one");
+                Err(Failure::at(command, wrong))
+            }
+        }
+    }
+
     /// The value of an option, read by `read`; an error names the option.
     pub fn parsed<T>(
         &self,

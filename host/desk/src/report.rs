@@ -7,7 +7,7 @@ use crate::frames::{Scope, Table};
 use crate::json::Json;
 use crate::map::PageMap;
 use crate::names::mode_name;
-use crate::setup::{Expect, Job};
+use crate::setup::Job;
 use crate::text;
 use disasm::register;
 use sporhulma::{word, Hart, BASE, REST};
@@ -22,7 +22,8 @@ pub struct Report {
 }
 
 impl Report {
-    pub fn new(end: &End, map: &PageMap, expect: Option<&Expect>, translated: bool) -> Report {
+    pub fn new(end: &End, job: &Job) -> Report {
+        let (map, expect) = (&job.map, job.expect.as_ref());
         let trap = match (end.stop, &end.before, end.cause) {
             (Stop::Trap | Stop::Stuck, Some(before), Some(cause)) => {
                 Some(Trap::explain(before, map, &end.after.hart, cause))
@@ -34,6 +35,8 @@ impl Report {
             .map_or_else(Vec::new, |trap| trap.rows.clone());
         let next = if trap.is_some() { "handler" } else { "next" };
         rows.push((next, end.after.next_text(map)));
+        rows.extend(start(job).map(|start| ("start", start)));
+        let translated = job.state.hart.rest[word::SATP] != 0;
         rows.extend(notes(end, map, translated).map(|note| ("note", note)));
         let good = match (expect, &trap) {
             (None, trap) => trap.is_none(),
@@ -88,6 +91,12 @@ impl Report {
                 Json::List([headline].into_iter().chain(rows).collect()),
             ),
         ];
+        let start = job.image.start.map_or(Json::Null, Json::hex);
+        let image = [
+            ("format", Json::text(job.image.format_name())),
+            ("start", start),
+        ];
+        members.push(("image", Json::object(image)));
         members.extend(hart_json(&end.after.hart));
         members.push(("dump", Json::List(dumps.collect())));
         if job.frames {
@@ -132,6 +141,19 @@ fn headline(end: &End, trap: Option<&Trap>) -> String {
             format!("Stopped after {step} {steps}, all that --steps allows{followed}.")
         }
     }
+}
+
+/// The start address that the image gives, and whether the hart began there.
+fn start(job: &Job) -> Option<String> {
+    let start = job.image.start?;
+    let began = match job.state.pc() {
+        pc if pc == start => "the hart began there".to_string(),
+        pc => format!("the hart began at {pc:#x} (--pc start takes it)"),
+    };
+    Some(format!(
+        "{start:#x}, as {} gives it; {began}",
+        job.image.path
+    ))
 }
 
 /// Hints about slips that are easily made.

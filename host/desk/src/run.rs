@@ -8,7 +8,6 @@ use crate::progress::Progress;
 use crate::report::{tables, Report};
 use crate::setup::Job;
 use crate::trace;
-use sporhulma::word;
 use std::io::Write;
 
 /// Runs what the options ask for; the answer is the exit status.
@@ -16,8 +15,7 @@ pub fn run(given: &Given, out: &mut dyn Write) -> Result<u8, Failure> {
     let mut job = Job::new(given)?;
     let (trace_to, save) = (job.trace_to.take(), job.save.take());
     let end = drive(&job, trace_to, out)?;
-    let translated = job.state.hart.rest[word::SATP] != 0;
-    let report = Report::new(&end, &job.map, job.expect.as_ref(), translated);
+    let report = Report::new(&end, &job);
     if let Some(output) = save {
         output.replace(|file| Ok(file.write_all(&end.after.mem)?))?;
     }

@@ -67,9 +67,10 @@ pub const JSON: Spec = switch(
 #[rustfmt::skip]
 pub const OPTIONS: &[Spec] = &[
     MEMORY,
+    with("--format", "raw|hex", "hex", "what the image is (default: told by its content)"),
     MAP,
     with("--mode", "M|S|U", "U", "the mode at the start (default M)"),
-    with("--pc", "ADDRESS", "0x80000000", "the program counter at the start (default 0x80000000)"),
+    with("--pc", "ADDRESS|start", "0x80000000", "the program counter at the start (default 0x80000000); start: the start address that an Intel HEX file gives"),
     with("--ssp", "ADDRESS", "0x30000", "the shadow stack pointer at the start (default 0)"),
     with("--elp", "0|1", "1", "whether a landing pad is expected at the start (default 0)"),
     many("--x", "REGISTER=VALUE", "a0=5", "a register by its name or as x10; VALUE may be negative; any number of times"),

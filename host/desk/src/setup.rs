@@ -3,14 +3,15 @@
 use crate::drive::Limits;
 use crate::failure::Failure;
 use crate::image;
+use crate::load::{load, Image};
 use crate::map::PageMap;
 use crate::number::{number, size};
 use crate::options::Given;
-use crate::output::Output;
+use crate::output::{self, Output};
 use crate::refusal::{self, MEMORY};
-use crate::start::hart;
+use crate::start::{hart, pc};
 use crate::state::State;
-use sporhulma::BASE;
+use sporhulma::{word, BASE};
 
 /// A trap that the user waits for.
 pub struct Expect {
@@ -20,6 +21,7 @@ pub struct Expect {
 
 /// All that `desk run` was asked to do.
 pub struct Job {
+    pub image: Image,
     pub state: State,
     pub map: PageMap,
     pub limits: Limits,
@@ -36,10 +38,10 @@ pub struct Job {
 
 impl Job {
     pub fn new(given: &Given) -> Result<Job, Failure> {
-        let state = State {
-            hart: hart(given)?,
-            mem: memory(given)?,
-        };
+        let (image, mem) = load(given, length(given)?)?;
+        let mut hart = hart(given)?;
+        hart.rest[word::PC] = pc(given, &image)?.unwrap_or(hart.rest[word::PC]);
+        let state = State { hart, mem };
         let frames = given.has("--frames");
         if frames && !given.has("--map") {
             let wrong = "it tells what the map's entries name, and no map is given; add --map FILE";
@@ -67,6 +69,7 @@ impl Job {
             trace_to: output(given, "--trace-to")?,
             registers: given.has("--registers"),
             save: output(given, "--save")?,
+            image,
             state,
             map,
             limits,
@@ -94,35 +97,6 @@ pub fn length(given: &Given) -> Result<u64, Failure> {
     }
 }
 
-/// Memory with the image at its start.
-fn memory(given: &Given) -> Result<Vec<u8>, Failure> {
-    let path = match given.places.as_slice() {
-        [path] => path,
-        [] => {
-            return Err(Failure::at(
-                "run",
-                "the image is missing; write desk run IMAGE [options]",
-            ))
-        }
-        [one, other, ..] => {
-            return Err(Failure::at(
-                "run",
-                format!("two images, {one} and {other}; give one"),
-            ))
-        }
-    };
-    let length = length(given)?;
-    let mut mem = image::image(path)?;
-    if mem.len() as u64 > length {
-        let (bytes, enough) = (mem.len(), mem.len().next_multiple_of(4096));
-        let wrong =
-            format!("the image has {bytes} bytes and memory {length}; try --memory {enough}");
-        return Err(Failure::at(path, wrong));
-    }
-    mem.resize(length as usize, 0);
-    Ok(mem)
-}
-
 /// The file that an option names, open for writing; it must be none that would be lost by that.
 fn output(given: &Given, option: &str) -> Result<Option<Output>, Failure> {
     let trace = given.one("--trace-to").filter(|_| option != "--trace-to");
@@ -131,16 +105,7 @@ fn output(given: &Given, option: &str) -> Result<Option<Output>, Failure> {
         ("the page map", given.one("--map")),
         ("the trace", trace),
     ];
-    given.parsed(option, |path| {
-        let output = Output::open(path)?;
-        let lost = |other: &&(&str, Option<&str>)| other.1.is_some_and(|other| output.is(other));
-        match others.iter().find(lost) {
-            Some((what, _)) => Err(format!(
-                "'{path}' is {what}, which would be lost; give another file"
-            )),
-            None => Ok(output),
-        }
-    })
+    output::asked(given, option, &others)
 }
 
 fn follow(given: &Given) -> Result<u64, Failure> {

@@ -2,12 +2,21 @@
 
 use crate::bits::{LPE, MLPE, PMM, SSE};
 use crate::failure::Failure;
+use crate::load::Image;
 use crate::names::{csr_index, register_number};
 use crate::number::{number, register_value};
 use crate::options::{Choices, Given};
 use sporhulma::{word, Hart, MSTATUS_CLEAR};
 
-/// The hart at the start.
+/// Where the hart starts, if the options say it: at an address, or where the image says.
+pub fn pc(given: &Given, image: &Image) -> Result<Option<u64>, Failure> {
+    given.parsed("--pc", |value| match value {
+        "start" => image.start_address(),
+        _ => number(value),
+    })
+}
+
+/// The hart at the start, but for `--pc`.
 pub fn hart(given: &Given) -> Result<Hart, Failure> {
     let mut hart = Hart::fresh();
     let mut set = Vec::new();
@@ -31,8 +40,8 @@ pub fn hart(given: &Given) -> Result<Hart, Failure> {
             "ssp is given twice, also by --csr ssp; give it once",
         ));
     }
-    for (name, index) in [("--pc", word::PC), ("--ssp", word::SSP)] {
-        hart.rest[index] = given.parsed(name, number)?.unwrap_or(hart.rest[index]);
+    if let Some(ssp) = given.parsed("--ssp", number)? {
+        hart.rest[word::SSP] = ssp;
     }
     let choices = [("--mode", word::MODE, MODES), ("--elp", word::ELP, ELPS)];
     for (name, index, choices) in choices {

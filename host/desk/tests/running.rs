@@ -289,10 +289,12 @@ fn help_is_there_and_fits_a_page() {
         "help frames",
         "help demo",
         "help disasm",
+        "help hex",
         "--help",
         "run -h",
         "frames --help",
         "disasm --help",
+        "hex --help",
     ] {
         let outcome = desk.run(command);
         assert_eq!((outcome.status, outcome.err.as_str()), (0, ""), "{command}");

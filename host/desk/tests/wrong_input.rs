@@ -21,10 +21,10 @@ fn refused(test: &str, prepare: impl Fn(&Desk), cases: &[(&str, &str)]) {
 #[rustfmt::skip]
 fn commands() {
     refused("commands", |_| (), &[
-        ("", "no command is given; write desk run, frames, demo, disasm or help"),
+        ("", "no command is given; write desk run, frames, demo, disasm, hex or help"),
         ("runn ok.bin", "runn: the desk has no such command; did you mean run?"),
-        ("simulate", "simulate: the desk has no such command; the commands are run, frames, demo, disasm and help"),
-        ("help rnu", "rnu: the desk has no such command; the commands are run, frames, demo, disasm and help"),
+        ("simulate", "simulate: the desk has no such command; the commands are run, frames, demo, disasm, hex and help"),
+        ("help rnu", "rnu: the desk has no such command; the commands are run, frames, demo, disasm, hex and help"),
         ("help run demo", "help: 'demo' is not needed; name one command"),
         ("demo now", "demo: 'now' is not needed; write desk demo [--svg FILE]"),
         ("demo --svg", "--svg: its FILE is missing; write for instance --svg torque.svg"),
@@ -231,6 +231,108 @@ fn frames() {
         ("run ok.bin --frames --sv39 --mode U --json", "--frames: it tells what the map's entries name, and no map is given; add --map FILE"),
         ("run ok.bin --map user.map --frames=1", "--frames: it takes no value; write it alone"),
     ]);
+}
+
+/// A line of a text in Intel HEX, between an upper address and the end record, and what is said about it.
+#[test]
+#[rustfmt::skip]
+fn hex_lines() {
+    let long = format!(":ff000000{}00", "00".repeat(255));
+    for (line, wrong) in [
+        (":0100000009F7", "the checksum is F7 and F6 would be right: ':0100000009F7'"),
+        (":020000021200EA", "type 02 (extended segment address) is not read, only 00, 01, 04 and 05: ':020000021200EA'"),
+        (":0410000001020304E2", "it puts 4 data bytes at 0x80001000 to 0x80001003, outside memory, which is 0x80000000 to 0x80000fff; try --memory 8192 or more: ':0410000001020304E2'"),
+        (":020FFF000102ED", "it puts 2 data bytes at 0x80000fff to 0x80001000, outside memory, which is 0x80000000 to 0x80000fff; try --memory 8192 or more: ':020FFF000102ED'"),
+        (":02000004FFFFFC\n:01FFFF0009F8", "it puts 1 data byte at 0xffffffff, outside memory, which is 0x80000000 to 0x80000fff: ':01FFFF0009F8'"),
+        (":02000000AB", "it says 2 data bytes and has 0: ':02000000AB'"),
+        (":030000048000007A", "the checksum is 7A and 79 would be right: ':030000048000007A'"),
+        (":0300000480000079", "it has 3 data bytes, and type 04 takes 2: ':0300000480000079'"),
+        (":0200010480007 9", "' ' in column 15 is no hex digit: ':0200010480007 9'"),
+        (":02000104800079", "its offset is 0001, and type 04 takes 0000: ':02000104800079'"),
+        ("", "the line is empty; a line is a colon and hex pairs"),
+        ("S1130000", "it begins with 'S' and not with a colon: 'S1130000'"),
+        (":00000001FF\r:00000001FF", "it has a CR in column 12 that no LF follows: ':00000001FF\\r:00000001FF'"),
+        (":0\u{1b}[31m\u{e4}", "'\\x1b' in column 3 is no hex digit: ':0\\x1b[31m\\xc3\\xa4'"),
+        (long.as_str(), "the checksum is 00 and 01 would be right: ':ff00000000000000000000000000000000000000000[465 more]000000000000'"),
+    ] {
+        let lines = format!(":0200000480007A\n{line}\n:00000001FF\n");
+        let number = 1 + line.matches('\n').count() + 1;
+        let prepare = |desk: &Desk| desk.file("p.hex", &lines);
+        refused("hex-lines", prepare, &[("run p.hex --memory 4K", &format!("p.hex:{number}: {wrong} (the loader's refusal 6)"))]);
+    }
+}
+
+#[test]
+#[rustfmt::skip]
+fn hex_files() {
+    let prepare = |desk: &Desk| {
+        desk.file("empty", "");
+        desk.file("open.hex", ":0200000480007A\r\n");
+        desk.file("after.hex", ":00000001FF\n:00000001FF\n");
+        desk.file("line.hex", ":00000001FF\n\n");
+        desk.file("early.hex", ":0100000009F6\n:00000001FF\n");
+        desk.file("guess.hex", ":13 and so on");
+        desk.file("good.hex", ":00000001FF");
+        desk.file("start.hex", ":040000058000000275\n:00000001FF");
+        // As long as no text may be, without the bytes on the disk.
+        desk.file("huge.hex", ":00");
+        let huge = std::fs::OpenOptions::new().write(true).open(desk.folder.join("huge.hex")).unwrap();
+        huge.set_len((1 << 26) + 1).unwrap();
+    };
+    refused("hex-files", prepare, &[
+        ("run empty --format hex", "empty:1: the end record is missing; the last line must be :00000001FF (the loader's refusal 6)"),
+        ("run open.hex", "open.hex:2: the end record is missing; the last line must be :00000001FF (the loader's refusal 6)"),
+        ("run after.hex", "after.hex:2: it follows the end record of line 1, and nothing may: ':00000001FF' (the loader's refusal 6)"),
+        ("run line.hex", "line.hex:2: it follows the end record of line 1, and nothing may (the loader's refusal 6)"),
+        ("run early.hex", "early.hex:1: it puts 1 data byte at 0x0, outside memory, which is 0x80000000 to 0x800fffff; no type 04 stands before it: ':0100000009F6' (the loader's refusal 6)"),
+        ("run guess.hex", "guess.hex:1: ' ' in column 4 is no hex digit: ':13 and so on'; a raw image needs --format raw (the loader's refusal 6)"),
+        ("run guess.hex --format hex", "guess.hex:1: ' ' in column 4 is no hex digit: ':13 and so on' (the loader's refusal 6)"),
+        ("run ok.bin --format hex", "ok.bin:1: it begins with 's' and not with a colon: 's\\x00\\x00\\x00' (the loader's refusal 6)"),
+        ("run huge.hex", "huge.hex: the text has more than 67108864 bytes (64M); leave out what is stored twice"),
+        ("run ok.bin --format elf", "--format: 'elf' is not one of raw, hex"),
+        ("run ok.bin --pc start", "--pc: 'start' is the start address of an Intel HEX file, and ok.bin is a raw image; give an address"),
+        ("run good.hex --pc start", "--pc: 'start' is the file's start address, and good.hex gives none (no type 05 record); give an address"),
+        ("run start.hex --pc start", "--pc: 0x80000002 is not a multiple of 4; try 0x80000000 or 0x80000004 (the hart's refusal 1)"),
+        ("run good.hex --pc begin", "--pc: 'begin' is not a number; write it as 4096, 0x1000 or 0b1000"),
+        ("run good.hex --save good.hex", "--save: 'good.hex' is the image, which would be lost; give another file"),
+    ]);
+}
+
+/// Nothing is printed or written where something is wrong, and the image is never lost.
+#[test]
+#[rustfmt::skip]
+fn hex_written() {
+    let prepare = |desk: &Desk| {
+        desk.file("good.hex", ":00000001FF");
+        desk.file("empty.bin", "");
+        desk.file("huge.bin", vec![0; 1_048_577]);
+    };
+    refused("hex-written", prepare, &[
+        ("hex", "hex: the image is missing; write desk hex IMAGE [options]"),
+        ("hex ok.bin user.map", "hex: two images, ok.bin and user.map; give one"),
+        ("hex none.bin", "none.bin: there is no such file; check the path"),
+        ("hex empty.bin", "empty.bin: the image is empty; give a file with at least one instruction"),
+        ("hex huge.bin", "huge.bin: the image has more than 1048576 bytes (1M), the largest memory"),
+        ("hex good.hex", "good.hex: it is Intel HEX already; give a raw image"),
+        ("hex ok.bin -o", "-o: its FILE is missing; write for instance -o program.hex"),
+        ("hex ok.bin -o ok.bin", "-o: 'ok.bin' is the image, which would be lost; give another file"),
+        ("hex ok.bin -o no/new.hex", "-o: 'no/new.hex' cannot be written (No such file or directory (os error 2)); give a file in a folder where you may write"),
+        ("hex ok.bin -o new.hex --length 0", "--length: 0 is not a length of a line's data; try 1 to 255, for instance 32"),
+        ("hex ok.bin -o new.hex --length 256", "--length: 256 is not a length of a line's data; try 1 to 255, for instance 32"),
+        ("hex ok.bin -o new.hex --length many", "--length: 'many' is not a number; write it as 4096, 0x1000 or 0b1000"),
+        ("hex ok.bin -o new.hex --at 0x100000000", "--at: 0x100000000 has more than 32 bits, the most that Intel HEX can say"),
+        ("hex ok.bin -o new.hex --at 0xfffffffd", "--at: 4 bytes from 0xfffffffd on go past 0xffffffff, the last address of Intel HEX; try 0xfffffffc or less"),
+        ("hex ok.bin -o new.hex --start 0x100000000", "--start: 0x100000000 has more than 32 bits, the most that Intel HEX can say"),
+        ("hex ok.bin --lenght 8", "--lenght: 'desk hex' has no such option; did you mean --length?"),
+        ("hxe ok.bin", "hxe: the desk has no such command; the commands are run, frames, demo, disasm, hex and help"),
+    ]);
+    let desk = Desk::new("hex-written-kept");
+    desk.image("ok.bin", &[ECALL]);
+    desk.run("hex ok.bin -o new.hex --length 0");
+    desk.run("hex none.bin -o new.hex");
+    desk.run("hex ok.bin -o ok.bin");
+    assert!(!desk.folder.join("new.hex").exists());
+    assert_eq!(std::fs::read(desk.folder.join("ok.bin")).unwrap(), ECALL.to_le_bytes());
 }
 
 #[test]
