@@ -1,18 +1,20 @@
-//! `tools/bench count`: machine instructions for one simulated instruction, as valgrind counts them, or the emulator where programs run
-//! under one. Times on a shared machine move by a factor of two; this does not move at all.
+//! `tools/bench count`: machine instructions for one simulated instruction and for a byte of Intel HEX, as valgrind counts them, or the
+//! emulator where programs run under one. Times on a shared machine move by a factor of two; this does not move at all.
 
-use crate::{programs, proved, second};
+use crate::{hex, programs, proved, second};
 use std::env;
 use std::ffi::OsString;
 use std::process::{Command, ExitCode};
 
 const SIDES: [&str; 2] = ["sporhulma", "second"];
+const MILLION: u64 = 1_000_000;
 
-/// Without words: the table. With a side, a row and a number of millions: that many simulated instructions, to be counted.
+/// Without words: the table. With a side, a row and a number: that many millions of simulated instructions, to be counted; or that many
+/// loads of a text, whose rows follow those of the programs.
 pub fn count(words: &[String]) -> ExitCode {
     match words {
         [] => table(),
-        [side, row, millions] => one(side, row, millions),
+        [side, row, times] => one(side, row, times),
         _ => wrong("it takes no words"),
     }
 }
@@ -22,17 +24,22 @@ fn wrong(what: &str) -> ExitCode {
     ExitCode::from(2)
 }
 
-fn one(side: &str, row: &str, millions: &str) -> ExitCode {
-    let mut all = programs::all();
-    let (Ok(row), Ok(millions)) = (row.parse::<usize>(), millions.parse::<u64>()) else {
-        return wrong("a row and a number of millions are numbers");
+fn one(side: &str, row: &str, times: &str) -> ExitCode {
+    let (programs, texts) = (programs::all(), hex::all());
+    let (Ok(row), Ok(times)) = (row.parse::<usize>(), times.parse::<u64>()) else {
+        return wrong("a row and how many times are numbers");
     };
-    if row >= all.len() || !SIDES.contains(&side) {
+    let ours = side == SIDES[0];
+    if row >= programs.len() + texts.len() || !SIDES.contains(&side) {
         return wrong("no such row or simulator");
     }
-    let p = all.swap_remove(row);
-    let run = if side == SIDES[0] { proved } else { second };
-    run(&p, millions * 1_000_000);
+    match programs.get(row) {
+        Some(p) => (if ours { proved } else { second })(p, times * MILLION),
+        None => {
+            let text = &texts[row - programs.len()];
+            (if ours { hex::proved } else { hex::second })(text, times * text.bytes())
+        }
+    };
     ExitCode::SUCCESS
 }
 
@@ -56,11 +63,11 @@ fn counter() -> Command {
     command
 }
 
-/// What was collected while this program ran so many millions.
-fn collected(side: &str, row: usize, millions: u64) -> Option<f64> {
+/// What was collected while this program did a row so many times.
+fn collected(side: &str, row: usize, times: u64) -> Option<f64> {
     let ran = counter()
         .arg(env::current_exe().ok()?)
-        .args(["count", side, &row.to_string(), &millions.to_string()])
+        .args(["count", side, &row.to_string(), &times.to_string()])
         .output()
         .ok()?;
     let said = String::from_utf8_lossy(&ran.stderr).into_owned();
@@ -68,20 +75,27 @@ fn collected(side: &str, row: usize, millions: u64) -> Option<f64> {
     number.split_whitespace().next()?.parse().ok()
 }
 
+/// A line of the table; `each` is how many instructions or bytes one time has.
+fn line(name: &str, row: usize, each: u64) -> Option<String> {
+    let mut line = format!("{name:<40}");
+    for side in SIDES {
+        // The second time alone: what starting costs is in the first.
+        let (first, both) = (collected(side, row, 1)?, collected(side, row, 2)?);
+        line += &format!(" {:>9.1}", (both - first) / each as f64);
+    }
+    Some(line)
+}
+
 fn table() -> ExitCode {
-    println!("Machine instructions for one simulated instruction");
+    println!("Machine instructions for one simulated instruction, and for a byte of text");
     println!("{:<40} {:>9} {:>9}", "program", SIDES[0], SIDES[1]);
-    for (row, p) in programs::all().iter().enumerate() {
-        let mut line = format!("{:<40}", p.name);
-        for side in SIDES {
-            // The second million alone: what starting costs is in the first.
-            let (Some(first), Some(both)) = (collected(side, row, 1), collected(side, row, 2))
-            else {
-                eprintln!("bench: count: no number of instructions came from valgrind, or from the emulator where tools/bench uses it");
-                return ExitCode::FAILURE;
-            };
-            line += &format!(" {:>9.1}", (both - first) / 1e6);
-        }
+    let programs = programs::all().into_iter().map(|p| (p.name, MILLION));
+    let texts = hex::all().map(|text| (text.name, text.bytes()));
+    for (row, (name, each)) in programs.chain(texts).enumerate() {
+        let Some(line) = line(name, row, each) else {
+            eprintln!("bench: count: no number of instructions came from valgrind, or from the emulator where tools/bench uses it");
+            return ExitCode::FAILURE;
+        };
         println!("{line}");
     }
     ExitCode::SUCCESS

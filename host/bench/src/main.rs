@@ -1,9 +1,11 @@
 //! `tools/bench`: millions of instructions a second of `sporhulma_run` and of the second simulator, on the same programs in the same
-//! run. Each figure is the best of several turns, which the two take one after the other, so that a busy machine harms both alike.
+//! run, and below them megabytes of Intel HEX a second. Each figure is the best of several turns, which the two take one after the other,
+//! so that a busy machine harms both alike.
 
 mod count;
 mod encode;
 mod filter;
+mod hex;
 mod programs;
 
 use programs::Program;
@@ -11,7 +13,7 @@ use sporhulma::MOST_STEPS;
 use std::process::ExitCode;
 use std::time::Instant;
 
-const USAGE: &str = "usage: tools/bench [MILLIONS] [TURNS]: instructions a turn in millions (1 to 1000, default 20), turns (1 to 100, default 5); or tools/bench count";
+const USAGE: &str = "usage: tools/bench [MILLIONS] [TURNS]: instructions, or bytes of text, a turn in millions (1 to 1000, default 20), turns (1 to 100, default 5); or tools/bench count";
 
 /// Calls `run` until it has taken `steps` instructions in all, and gives millions a second.
 fn speed(steps: u64, mut run: impl FnMut(u64) -> u64) -> f64 {
@@ -75,24 +77,40 @@ fn table(words: &[String]) -> ExitCode {
         "{:<40} {:>9} {:>9} {:>7}",
         "program", "sporhulma", "second", "ratio"
     );
+    let amount = millions * 1_000_000;
     for p in programs::all() {
-        let (mut ours, mut theirs) = (0.0f64, 0.0f64);
-        for _ in 0..turns {
-            ours = ours.max(proved(&p, millions * 1_000_000));
-            theirs = theirs.max(second(&p, millions * 1_000_000));
-        }
-        println!(
-            "{:<40} {ours:>9.1} {theirs:>9.1} {:>7.2}",
-            p.name,
-            ours / theirs
-        );
+        row(p.name, turns, || (proved(&p, amount), second(&p, amount)));
+    }
+    println!("Megabytes of text a second, best of {turns} turns of {millions}");
+    for text in hex::all() {
+        let turn = || (hex::proved(&text, amount), hex::second(&text, amount));
+        row(text.name, turns, turn);
     }
     ExitCode::SUCCESS
+}
+
+/// A line of the table: of each side the best of so many turns.
+fn row(name: &str, turns: u64, turn: impl Fn() -> (f64, f64)) {
+    let (mut ours, mut theirs) = (0.0f64, 0.0f64);
+    for _ in 0..turns {
+        let (one, other) = turn();
+        (ours, theirs) = (ours.max(one), theirs.max(other));
+    }
+    let ratio = ours / theirs;
+    println!("{name:<40} {ours:>9.1} {theirs:>9.1} {ratio:>7.2}");
 }
 
 #[cfg(test)]
 mod tests {
     use super::*;
+
+    /// A turn compares what was loaded with the image.
+    #[test]
+    fn the_texts_are_loaded_by_both() {
+        for text in hex::all() {
+            assert!(hex::proved(&text, 1) > 0.0 && hex::second(&text, 1) > 0.0);
+        }
+    }
 
     /// Both simulators do the same with each program, and only one of them traps: else the table would time something else.
     #[test]
