@@ -1,5 +1,5 @@
-//! Runs the tools of Debian's packages and gives what they print; the files between them lie in
-//! target/outside.
+//! Runs the tools of Debian's packages, binutils and others, and gives what they print; the files
+//! between them lie in target/outside.
 
 use std::path::PathBuf;
 use std::process::Command;
@@ -24,7 +24,7 @@ pub fn read(path: &PathBuf) -> Result<Vec<u8>, String> {
     std::fs::read(path).map_err(|error| format!("{}: cannot be read: {error}", path.display()))
 }
 
-/// What a tool of binutils said.
+/// What a tool said.
 pub struct Said {
     pub succeeded: bool,
     pub output: String,
@@ -33,8 +33,11 @@ pub struct Said {
 
 /// Runs `tool` of binutils (`as`, `ld` ..).
 pub fn run(tool: &str, arguments: &[&str]) -> Result<Said, String> {
-    let name = format!("{PREFIX}{tool}");
-    let ran = Command::new(&name).args(arguments).output();
+    run_named(&format!("{PREFIX}{tool}"), arguments)
+}
+
+fn run_named(name: &str, arguments: &[&str]) -> Result<Said, String> {
+    let ran = Command::new(name).args(arguments).output();
     let ran =
         ran.map_err(|error| format!("{name}: cannot be run: {error}; tools/outside installs it"))?;
     Ok(Said {
@@ -44,13 +47,18 @@ pub fn run(tool: &str, arguments: &[&str]) -> Result<Said, String> {
     })
 }
 
-/// Runs `tool`, which must succeed, and gives its output.
+/// Runs `tool` of binutils, which must succeed, and gives its output.
 pub fn output(tool: &str, arguments: &[&str]) -> Result<String, String> {
-    let said = run(tool, arguments)?;
+    output_of(&format!("{PREFIX}{tool}"), arguments)
+}
+
+/// The same of any tool, by its whole name.
+pub fn output_of(name: &str, arguments: &[&str]) -> Result<String, String> {
+    let said = run_named(name, arguments)?;
     let first = said.errors.lines().next().unwrap_or("no message");
     said.succeeded
         .then_some(said.output)
-        .ok_or_else(|| format!("{PREFIX}{tool} {}: failed: {first}", arguments.join(" ")))
+        .ok_or_else(|| format!("{name} {}: failed: {first}", arguments.join(" ")))
 }
 
 /// The version of `tool`, as it says it itself.

@@ -1,5 +1,5 @@
-//! `tools/outside`: the hart and its disassembler against what none of us wrote, QEMU and GNU's
-//! assembler and disassembler.
+//! `tools/outside`: the hart, its disassembler and its loader of Intel HEX against what none of us
+//! wrote: QEMU, GNU binutils and srecord.
 //!
 //! This file reads the command line, runs the comparisons that were asked for and turns what they
 //! found into an exit status.
@@ -7,6 +7,7 @@
 mod assembler;
 mod encode;
 mod gnu;
+mod hex;
 mod image;
 mod lockstep;
 mod objdump;
@@ -23,16 +24,18 @@ use report::say;
 use std::process::ExitCode;
 
 const HELP: &str = "\
-tools/outside [COMPARISON] [OPTION ..]: the hart and its disassembler against QEMU and GNU binutils
+tools/outside [COMPARISON] [OPTION ..]: the hart, its disassembler and its loader of Intel HEX against
+QEMU, GNU binutils and srecord
 
 COMPARISON, all of them one after the other if none is given:
   objdump   the text of many words, beside GNU objdump's
   as        GNU as, reading that text, gives the word back
   qemu      random programs, step by step beside QEMU's riscv64 system emulator
   image     examples/torque, assembled again, gives the committed images
+  hex       Intel HEX of GNU objcopy and srec_cat is loaded byte for byte, and they read what desk hex writes
 
 OPTION:
-  --seed S       where the random words and programs start from (default 1)
+  --seed S       where the random words, programs and images start from (default 1)
   --programs N   how many programs QEMU runs (default 40)
   --program N    only program number N of this seed
 
@@ -75,6 +78,7 @@ fn compare(options: &Options) -> Result<u64, String> {
             Comparison::As => assembler::compare(options.seed)?,
             Comparison::Qemu => lockstep::compare(options.seed, options.programs.clone())?,
             Comparison::Image => image::compare()?,
+            Comparison::Hex => hex::compare(options.seed)?,
         };
     }
     Ok(differences)

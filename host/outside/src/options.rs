@@ -8,13 +8,15 @@ pub enum Comparison {
     As,
     Qemu,
     Image,
+    Hex,
 }
 
-const COMPARISONS: [(&str, Comparison); 4] = [
+const COMPARISONS: [(&str, Comparison); 5] = [
     ("objdump", Comparison::Objdump),
     ("as", Comparison::As),
     ("qemu", Comparison::Qemu),
     ("image", Comparison::Image),
+    ("hex", Comparison::Hex),
 ];
 
 #[derive(PartialEq, Eq, Debug)]
@@ -54,7 +56,7 @@ pub fn read(given: &[String]) -> Result<Option<Options>, String> {
 fn comparison(name: &str) -> Result<Comparison, String> {
     let known = COMPARISONS.iter().find(|(known, _)| *known == name);
     known.map(|(_, comparison)| *comparison).ok_or_else(|| {
-        format!("{name}: no such comparison or option; there are objdump, as, qemu, image, --seed S, --programs N and --program N")
+        format!("{name}: no such comparison or option; there are objdump, as, qemu, image, hex, --seed S, --programs N and --program N")
     })
 }
 
@@ -88,7 +90,8 @@ mod tests {
                 Comparison::Objdump,
                 Comparison::As,
                 Comparison::Qemu,
-                Comparison::Image
+                Comparison::Image,
+                Comparison::Hex
             ]
         );
         assert_eq!((options.seed, options.programs), (1, 0..40));
