@@ -30,8 +30,7 @@ below (suc m) f h n l =
 
 -- the code's formula
 unfoldable pub formula : ℕ → ℕ
-formula n =
-    pick (ltb n 48) 256 (pick (ltb 63 (n - 48)) 256 (pick (eqb (0x007e_0000_007e_03ff / 2 ^ (n - 48) % 2) 0) 256 (valueOf n)))
+formula n = pick (ltb 63 ((n + 208) % 256)) 256 (pick (eqb (0x007e_0000_007e_03ff / 2 ^ ((n + 208) % 256) % 2) 0) 256 (valueOf n))
 
 pub told : (n : ℕ) → n < 256 → formula n ≡ digitOf n
 unfolding allBelow formula digitOf

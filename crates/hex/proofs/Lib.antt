@@ -7,3 +7,6 @@ pub mod Good
 pub mod Turns
 pub mod Whole
 pub mod Loads
+pub mod Bytes
+pub mod Kept
+pub mod Order

@@ -20,19 +20,6 @@ unfolding textAfter
 no-text n [] h e = refl
 no-text n (l ∷ ls) h e = absurd (omega arith)
 
--- no line is left
-pub at-end : (len upper n : ℕ) → firstBad len upper n [] ≡ n
-unfolding firstBad
-at-end len upper n = refl
-
-pub start-none : (s : Start) → lastStart s [] ≡ s
-unfolding lastStart
-start-none s = refl
-
-pub stored-none : (upper : ℕ) (mem : List ℕ) → stored upper mem [] ≡ mem
-unfolding stored
-stored-none upper mem = refl
-
 -- the lines are l and what follows it
 module _ (len upper : ℕ) {ls : List (List ℕ)} {l : List ℕ} {more : List (List ℕ)} (e : ls ≡ l ∷ more) where
   pub bad-line : (n : ℕ) → good len upper l ≡ false → firstBad len upper n ls ≡ n

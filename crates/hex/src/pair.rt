@@ -15,16 +15,12 @@ fn value(b: u8) -> u64
     n % 16 + n / 64 * 9
 }
 
-// The value of a digit; 256 for any other byte. The digits are the bits of a mask, counted from '0', so that every test goes the same way for
-// each of them.
+// The value of a digit; 256 for any other byte. The digits are the bits of a mask, counted from '0' (48, modulo 256), so that every test goes the
+// same way for each of them.
 fn digit(b: u8) -> u64
     ensures { λ r. ⌜ (r ≡ digitOf b) × (r ≤ 256) ⌝ }
 {
-    let n = b as u64;
-    if n < 48 {
-        return 256;
-    }
-    let k = n - 48;
+    let k = (b as u64 + 208) % 256;
     if 63 < k {
         return 256;
     }

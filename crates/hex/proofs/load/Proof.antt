@@ -5,7 +5,7 @@ use native.Mathlib.Omega.{arith}
 use borrow.Author.Needs.{needs}
 use Rattle.memory.proofs.Accepted.{accepted}
 use Rattle.hex.specs.Lines.{linesOf}
-use Rattle.hex.specs.Load.{Called, answered}
+use Rattle.hex.specs.Load.{answered}
 use Rattle.hex.specs.declared.line.Start.{Start}
 use Rattle.hex.proofs.Loads.{refused-2, refused-6, taken}
 use Rattle.hex.proofs.Turns.{none-bad}
@@ -15,8 +15,8 @@ use Rattle.hex.proofs.load.Tie as tie
 returns : tie.Need-returns
 returns c =
     let s = c .before .before .before .before .before .args in
-    let e = refused-2 (s .text .now) (s .mem .now) (sym (c .before .before .refused .ensures) ∙ c .before .if1 .taken) in
-    (c .refused2 .ensures ∙ sym (ap (λ (x : Called). x .answer) e), sym (ap (λ (x : Called). x .memory) e))
+    let (a, m) = refused-2 (s .text .now) (s .mem .now) (sym (c .before .before .refused .ensures) ∙ c .before .if1 .taken) in
+    (c .refused2 .ensures ∙ a, m)
 
 first-bad-requires : tie.Need-first-bad-requires
 first-bad-requires c κs =
@@ -30,20 +30,19 @@ store-requires c κs =
 
 returns-2 : tie.Need-returns-2
 returns-2 c =
-    let s = c .before .before .before .before .before .before .before .before .before .before .before .args in
-    let j = c .before .before .before .before .before .before .first-bad in
-    let z = c .before .before .before .before .before .if2 .taken in
-    let e = taken (s .text .now) (s .mem .now) (sym (c .before .before .before .before .before .before .before .before .refused .ensures) ∙ c .before .before .before .before .before .before .before .if1 .left) (j .result .line) (j .ensures .0) z in (
-      ap (λ (x : Start). answered 0 0 x (s .mem .now) .answer) (j .ensures .1 z) ∙ sym (ap (λ (x : Called). x .answer) e),
-      c .before .before .before .store .ensures ∙ sym (ap (λ (x : Called). x .memory) e),
-    )
+    let i = c .before .before .before .before .before in
+    let j = i .before .first-bad in
+    let s = i .before .before .before .before .before .before .args in
+    let (a, m) = taken (s .text .now) (s .mem .now) (sym (i .before .before .before .refused .ensures) ∙ i .before .before .if1 .left) (j .result .line) (j .ensures .0) (i .if2 .taken) in
+    (ap (λ (x : Start). answered 0 0 x (s .mem .now) .answer) (j .ensures .1 (i .if2 .taken)) ∙ a, c .before .before .before .store .ensures ∙ m)
 
 returns-3 : tie.Need-returns-3
 returns-3 c =
-    let s = c .before .before .before .before .before .before .before .args in
-    let j = c .before .before .first-bad in
-    let e = refused-6 (s .text .now) (s .mem .now) (sym (c .before .before .before .before .refused .ensures) ∙ c .before .before .before .if1 .left) (j .result .line) (j .ensures .0) (c .before .if2 .left) in
-    (c .refused3 .ensures ∙ sym (ap (λ (x : Called). x .answer) e), sym (ap (λ (x : Called). x .memory) e))
+    let i = c .before in
+    let j = i .before .first-bad in
+    let s = i .before .before .before .before .before .before .args in
+    let (a, m) = refused-6 (s .text .now) (s .mem .now) (sym (i .before .before .before .refused .ensures) ∙ i .before .before .if1 .left) (j .result .line) (j .ensures .0) (i .if2 .left) in
+    (c .refused3 .ensures ∙ a, m)
 
 pub load-spec : {M : Type 1} → statement M
 load-spec =

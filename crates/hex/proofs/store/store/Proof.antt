@@ -11,8 +11,7 @@ use Rattle.hex.specs.Load.{upperAfter, stored}
 use Rattle.hex.specs.Inner.{Cut, allGood}
 use Rattle.hex.specs.declared.line.Head.{Head}
 use Rattle.hex.proofs.Good.{well-formed, formed}
-use Rattle.hex.proofs.Lines.{none}
-use Rattle.hex.proofs.Turns.{stored-none, stored-line, all-line}
+use Rattle.hex.proofs.Turns.{stored-line, all-line}
 use Rattle.hex.proofs.Whole.{Whole, here, whole}
 use Rattle.hex.proofs.store.store.Statement.{statement}
 use Rattle.hex.proofs.store.store.Tie as tie
@@ -73,11 +72,11 @@ loop-again c =
     )
 
 returns : tie.Need-returns Inv-loop μ-loop
+unfolding linesOf stored
 returns c =
     let a = c .before in
-    let s = a .before .before .before .args in
-    let e = ap linesOf (drop-of-length-le (s .text .now) {i = a .loop .at} (omega arith)) ∙ none in
-    sym (a .loop .inv .4 ∙ ap (stored (a .loop .upper) (a .loop .mem)) e ∙ stored-none (a .loop .upper) (a .loop .mem))
+    let e = drop-of-length-le (a .before .before .before .args .text .now) {i = a .loop .at} (omega arith) in
+    sym (a .loop .inv .4 ∙ ap (λ (u : List ℕ). stored (a .loop .upper) (a .loop .mem) (linesOf u)) e)
 
 pub store-spec : {M : Type 1} → statement M
 store-spec =

@@ -1,4 +1,5 @@
 -- `hex::verdict::first_bad` meets its contract: the first bad line is that of the lines from `at` on, read with what the lines before said. Assumes nothing.
+use mathlib.Core.List.{List}
 use mathlib.Core.Path.{_≡_, refl, sym, ap, _∙_}
 use Prim.Native.Nat.{ℕ, _≤_, _-_, _+_}
 use lib.ListN.{length, take, drop, drop-of-length-le}
@@ -9,8 +10,8 @@ use Rattle.hex.specs.Load.{noStart, lastStart, firstBad}
 use Rattle.hex.specs.Inner.{sumOf, Cut}
 use Rattle.hex.specs.declared.line.Head.{Head}
 use Rattle.hex.proofs.Good.{paired, bad-sum, well-formed}
-use Rattle.hex.proofs.Lines.{none, some, parts}
-use Rattle.hex.proofs.Turns.{no-text, at-end, start-none, bad-line, good-line, end-line, start-line}
+use Rattle.hex.proofs.Lines.{some, parts}
+use Rattle.hex.proofs.Turns.{no-text, bad-line, good-line, end-line, start-line}
 use Rattle.hex.proofs.verdict.first_bad.Statement.{statement}
 use Rattle.hex.proofs.verdict.first_bad.Tie as tie
 
@@ -58,6 +59,7 @@ start-after-requires c κs = let (p, q, _) = upper-after-requires (c .before) κ
 
 -- the end record
 returns-2 : tie.Need-returns-2 Inv-loop μ-loop
+unfolding lastStart
 returns-2 c =
     let i = c .before .before .before .before in
     let k = cut (i .before .before .before .before) in
@@ -68,7 +70,7 @@ returns-2 c =
       c .later .ensures ∙ sym (a .loop .inv .4 ∙ end-line (s .len) (a .loop .upper) (k .lines) (a .loop .n) (sym (i .before .is-good .ensures) ∙ i .if2 .taken) e),
       λ z.
           let f = no-text (a .loop .n + 1) more (omega arith) (sym (c .later .ensures) ∙ z) in
-          c .before .before .start-after .ensures ∙ sym (a .loop .inv .5 ∙ start-line (s .len) (a .loop .upper) (k .lines) (a .loop .start) ∙ ap (lastStart _) f ∙ start-none _),
+          c .before .before .start-after .ensures ∙ sym (a .loop .inv .5 ∙ start-line (s .len) (a .loop .upper) (k .lines) (a .loop .start) ∙ ap (lastStart _) f),
     )
 
 -- a good line before it
@@ -100,11 +102,12 @@ returns-3 c =
 
 -- nothing ended the file
 returns-4 : tie.Need-returns-4 Inv-loop μ-loop
+unfolding linesOf firstBad
 returns-4 c =
     let a = c .before in
     let s = a .before .before .args in
-    let e = ap linesOf (drop-of-length-le (s .text .now) {i = a .loop .at} (omega arith)) ∙ none in
-    (sym (a .loop .inv .4 ∙ ap (firstBad (s .len) (a .loop .upper) (a .loop .n)) e ∙ at-end (s .len) (a .loop .upper) (a .loop .n)), λ z. absurd (omega arith))
+    let e = drop-of-length-le (s .text .now) {i = a .loop .at} (omega arith) in
+    (sym (a .loop .inv .4 ∙ ap (λ (u : List ℕ). firstBad (s .len) (a .loop .upper) (a .loop .n) (linesOf u)) e), λ z. absurd (omega arith))
 
 pub first-bad-spec : {M : Type 1} → statement M
 first-bad-spec =
