@@ -13,7 +13,7 @@ use lib.ListN.{length, getD, take, drop, set, length-drop, drop-of-length-le}
 use lib.Seq.{sets, drop-cons, getD-take, getD-drop, length-take-le}
 use Rattle.word.specs.Choice.{pick}
 use Rattle.word.proofs.Bools.{both}
-use Rattle.hex.specs.Digits.{hexPairs, pairsOf, total}
+use Rattle.hex.specs.Digits.{hexPairs, total}
 use Rattle.hex.specs.Line.{bytesOf, byteOf, countOf, offsetOf, kindOf, colon, counted, shaped, wellFormed, checked, isRead, addressOf, dataOf, inside, good}
 use Rattle.hex.specs.Load.{placed}
 use Rattle.hex.specs.Inner.{sumFrom, sumOf, headOf}

@@ -14,7 +14,7 @@ use Rattle.word.proofs.Bools.{both, neither}
 use Rattle.memory.specs.Refusal.{refusedOf}
 use Rattle.hex.specs.Lines.{linesOf}
 use Rattle.hex.specs.Line.{good}
-use Rattle.hex.specs.Load.{upperAfter, firstBad, placed, stored, loadOf}
+use Rattle.hex.specs.Load.{upperAfter, firstBad, noStart, placed, stored, answered, loadOf}
 use Rattle.hex.specs.Named.{names, someNames, upperAt, dataAt, byteAfter}
 use Rattle.hex.specs.Inner.{allGood}
 use Rattle.hex.specs.declared.Loaded.{Loaded}
@@ -27,24 +27,27 @@ module _ (text mem : List ℕ) where
   abbrev pub Bad : ℕ
   Bad = firstBad (length mem) 0 1 (linesOf text)
 
-  -- a text is refused, and memory is as it was, or it has no bad line
-  pub verdict : {A : Type 0} → ((loadOf text mem .answer .refusal ≡ 0 → ⊥) → loadOf text mem .memory ≡ mem → A)
+  -- a text is refused, with no start address and memory as it was, or it has no bad line
+  pub verdict : {A : Type 0}
+      → ((refusal line : ℕ) → (refusal ≡ 0 → ⊥) → answered refusal line noStart mem .answer ≡ loadOf text mem .answer → mem ≡ loadOf text mem .memory → A)
       → (refusedOf (length mem) ≡ false → Bad ≡ 0 → A) → A
   verdict f g =
-      let number : Loaded → ℕ = λ x. x .refusal in
       by-test (refusedOf (length mem))
-      (λ e. let (a, m) = refused-2 text mem e in f (λ z. let y = ap number a in omega arith) (sym m))
+      (λ e. let (a, m) = refused-2 text mem e in f 2 0 (λ z. omega arith) a m)
       (λ e. by-test (eqb Bad 0) (λ z. g e (eqb-true Bad 0 z)) (λ z.
-      let (a, m) = refused-6 text mem e Bad refl (eqb-false Bad 0 z) in f (λ w. let y = ap number a in omega arith) (sym m)))
+      let (a, m) = refused-6 text mem e Bad refl (eqb-false Bad 0 z) in f 6 Bad (λ w. omega arith) a m))
 
-  pub refused-changes-nothing : (loadOf text mem .answer .refusal ≡ 0 → ⊥) → loadOf text mem .memory ≡ mem
+  pub refused-changes-nothing : (loadOf text mem .answer .refusal ≡ 0 → ⊥)
+      → (loadOf text mem .memory ≡ mem) × (loadOf text mem .answer .given ≡ 0) × (loadOf text mem .answer .start ≡ 0)
   refused-changes-nothing h =
-      verdict (λ _ m. m) (λ e z. absurd (h (sym (ap (λ (x : Loaded). x .refusal) (taken text mem e Bad refl z .0)))))
+      verdict
+      (λ _ _ _ a m. (sym m, sym (ap (λ (x : Loaded). x .given) a), sym (ap (λ (x : Loaded). x .start) a)))
+      (λ e z. absurd (h (sym (ap (λ (x : Loaded). x .refusal) (taken text mem e Bad refl z .0)))))
 
   -- an accepted text has no bad line
   module _ (h : loadOf text mem .answer .refusal ≡ 0) where
     pub accepted : (refusedOf (length mem) ≡ false) × (Bad ≡ 0)
-    accepted = verdict (λ n _. absurd (n h)) (λ e z. (e, z))
+    accepted = verdict (λ n _ ne a _. absurd (ne (ap (λ (x : Loaded). x .refusal) a ∙ h))) (λ e z. (e, z))
 
     pub all-good : allGood (length mem) 0 (linesOf text) ≡ true
     all-good = none-bad (length mem) 0 1 (linesOf text) (omega arith) (accepted .1)

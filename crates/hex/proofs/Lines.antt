@@ -2,8 +2,8 @@
 -- Assumes nothing.
 use mathlib.Core.Bool.{true, false, _&&_}
 use mathlib.Core.List.{List, [], _∷_}
-use mathlib.Core.Path.{_≡_, refl, sym, ap, _∙_}
-use Prim.Native.Nat.{ℕ, suc, _+_, _<_, _≤_}
+use mathlib.Core.Path.{_≡_, refl, ap, _∙_}
+use Prim.Native.Nat.{ℕ, _+_, _<_, _≤_}
 use native.Mathlib.Nat.{add-zero}
 use native.Mathlib.Numerals.{add-one}
 use native.Mathlib.Omega.{arith}
@@ -12,6 +12,7 @@ use lib.Dec.{eqb}
 use lib.ListN.{length, getD, take, drop, drop-of-length-le}
 use lib.Seq.{drop-cons, drop-drop, getD-drop}
 use Rattle.word.proofs.Bools.{both}
+use Rattle.word.proofs.Choices.{first, second}
 use Rattle.hex.specs.Lines.{begins, linesOf}
 use Rattle.hex.specs.Load.{textAfter}
 use Rattle.hex.specs.Inner.{firstOf, othersOf, lineAt, linesBehind, Ends}
@@ -40,11 +41,11 @@ fed (b ∷ rest) h = rw h
 module _ (b : ℕ) (rest : List ℕ) where
   crlf : eqb b 10 ≡ false → eqb b 13 && eqb (getD rest 0 0) 10 ≡ true → linesOf (b ∷ rest) ≡ [] ∷ linesOf (drop 1 rest)
   unfolding linesOf
-  crlf e f = rw (e, f) (fed rest (eqb-true (getD rest 0 0) 10 (both (eqb b 13) (eqb (getD rest 0 0) 10) f .1)))
+  crlf e f = second _ _ _ e ∙ first _ _ _ f ∙ fed rest (eqb-true (getD rest 0 0) 10 (both (eqb b 13) (eqb (getD rest 0 0) 10) f .1))
 
   on : eqb b 10 ≡ false → eqb b 13 && eqb (getD rest 0 0) 10 ≡ false → linesOf (b ∷ rest) ≡ (b ∷ firstOf (linesOf rest)) ∷ othersOf (linesOf rest)
   unfolding linesOf
-  on e f = rw (e, f) (begun b (linesOf rest))
+  on e f = second _ _ _ e ∙ second _ _ _ f ∙ begun b (linesOf rest)
 
   pub by-first : {A : Type 0} → ((more : List (List ℕ)) → linesOf (b ∷ rest) ≡ [] ∷ more → A)
       → (linesOf (b ∷ rest) ≡ (b ∷ firstOf (linesOf rest)) ∷ othersOf (linesOf rest) → A) → A

@@ -1,11 +1,10 @@
 -- The hex pairs of a line, one after another, and what they and the line's end make of the line.
 -- Assumes nothing.
-use mathlib.Core.Bool.{Bool, true, false, _&&_}
-use mathlib.Core.List.{List, [], _∷_, _++_, append-assoc, append-nil}
+use mathlib.Core.Bool.{Bool, true, false}
+use mathlib.Core.List.{List, [], _∷_, append-assoc, append-nil}
 use mathlib.Core.Path.{_≡_, refl, sym, ap, _∙_}
 use Prim.Native.Nat.{ℕ, suc, _+_, _-_, _*_, _%_, _<_, _≤_}
 use native.Mathlib.Nat.{sub-self}
-use native.Mathlib.Numerals.{add-one}
 use native.Mathlib.Omega.{arith}
 use borrow.Author.Tests.{ne-eqb, le-leb, lt-leb}
 use lib.Dec.{leb}
@@ -18,7 +17,7 @@ use Rattle.hex.specs.Lines.{linesOf}
 use Rattle.hex.specs.Line.{colon}
 use Rattle.hex.specs.Inner.{firstOf, lineAt, linesBehind, sumFrom, sumOf, Paired, Ends, Cut}
 use Rattle.hex.proofs.Digits.{pair-good, pair-bad, no-end}
-use Rattle.hex.proofs.Lines.{none, at-place, some, first-byte, goes-on}
+use Rattle.hex.proofs.Lines.{at-place, some, first-byte, goes-on}
 use Rattle.hex.proofs.Pairs.{sum-none, sum-pair, sum-bad}
 
 module _ (t : List ℕ) where

@@ -11,7 +11,7 @@ use Rattle.word.proofs.Either.{either}
 use Rattle.hex.specs.Digits.{digitOf}
 use Rattle.hex.specs.Lines.{linesOf}
 use Rattle.hex.specs.Line.{countOf, good}
-use Rattle.hex.specs.Inner.{firstOf, othersOf, lineAt, linesBehind, Ends, Cut, allGood}
+use Rattle.hex.specs.Inner.{lineAt, Ends, Cut, allGood}
 use Rattle.hex.proofs.Good.{well-formed, formed}
 use Rattle.hex.proofs.Lines.{some, split}
 use Rattle.hex.proofs.Pairs.{byte-at}

@@ -1,7 +1,7 @@
 -- What the contracts of the inner functions speak of. Nothing of the promise (specs/Load.antt) rests on it.
 --
 -- Below, t is a text, i and at are places in it.
-use mathlib.Core.Bool.{Bool, true, false, _&&_}
+use mathlib.Core.Bool.{Bool, true, _&&_}
 use mathlib.Core.List.{List, [], _∷_, _++_}
 use mathlib.Core.Path.{_≡_}
 use Prim.Native.Nat.{ℕ, _+_, _-_, _*_, _/_, _%_, _<_, _≤_}

@@ -6,7 +6,7 @@ use mathlib.Core.List.{List}
 use Prim.Native.Nat.{ℕ, _+_, _*_, _%_}
 use lib.Dec.{eqb, leb}
 use lib.ListN.{length, getD, take, drop}
-use Rattle.word.specs.Choice.{pick, look, Table, _⇒_¦_, otherwise}
+use Rattle.word.specs.Choice.{look, Table, _⇒_¦_, otherwise}
 use Rattle.hex.specs.Digits.{hexPairs, pairsOf, total}
 
 -- the bytes of a line: count, offset (two), type, data, checksum

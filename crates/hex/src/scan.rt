@@ -2,7 +2,7 @@
 ghost use mathlib.Core.Path.{_≡_};
 ghost use mathlib.Core.Bool.{false};
 ghost use Prim.Native.Nat.{_+_, _<_, _≤_};
-ghost use lib.ListN.{length, drop};
+ghost use lib.ListN.{length};
 ghost use Rattle.hex.specs.Digits.{hexPairs};
 ghost use Rattle.hex.specs.Inner.{lineAt, sumOf, Paired, Ends, Cut};
 use super::pair;

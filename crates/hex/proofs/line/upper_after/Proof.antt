@@ -2,6 +2,8 @@
 use mathlib.Core.Path.{sym, _∙_}
 use native.Mathlib.Omega.{arith}
 use borrow.Author.Tests.{eq-eqb, ne-eqb}
+use Rattle.word.proofs.Choices.{first, second}
+use Rattle.hex.specs.Line.{kindOf}
 use Rattle.hex.specs.Load.{upperAfter}
 use Rattle.hex.proofs.Good.{formed, room}
 use Rattle.hex.proofs.line.upper_after.Statement.{statement}
@@ -17,11 +19,11 @@ returns : tie.Need-returns
 unfolding upperAfter
 returns c =
     let s = c .before .before .before in
-    (rw (eq-eqb _ 4 (sym (s .pre .1) ∙ c .before .if1 .taken)) (c .half .ensures .0), c .half .ensures .1)
+    (c .half .ensures .0 ∙ sym (first _ _ _ (eq-eqb (kindOf (s .args .line .now)) 4 (sym (s .pre .1) ∙ c .before .if1 .taken))), c .half .ensures .1)
 
 returns-2 : tie.Need-returns-2
 unfolding upperAfter
-returns-2 c = let s = c .before .before in (rw (ne-eqb _ 4 (λ e. c .if1 .left (s .pre .1 ∙ e))), s .pre .2)
+returns-2 c = let s = c .before .before in (sym (second _ _ _ (ne-eqb (kindOf (s .args .line .now)) 4 (λ e. c .if1 .left (s .pre .1 ∙ e)))), s .pre .2)
 
 pub upper-after-spec : {M : Type 1} → statement M
 upper-after-spec = tie.close (tie.spec half-requires returns returns-2)

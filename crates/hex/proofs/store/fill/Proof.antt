@@ -1,6 +1,6 @@
 -- `hex::store::fill` meets its contract: what is left to be stored, stored, gives the whole. Assumes nothing.
-use mathlib.Core.Path.{_≡_, refl, sym, ap, _∙_}
-use Prim.Native.Nat.{ℕ, _≤_, _-_, _+_}
+use mathlib.Core.Path.{_≡_, refl, _∙_}
+use Prim.Native.Nat.{_≤_, _-_, _+_}
 use lib.ListN.{length, take, drop, length-set}
 use lib.Seq.{sets}
 use native.Mathlib.Nat.{add-zero}

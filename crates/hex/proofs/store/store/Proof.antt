@@ -3,12 +3,12 @@ use mathlib.Core.Bool.{true}
 use mathlib.Core.List.{List}
 use mathlib.Core.Path.{_≡_, refl, sym, ap, _∙_}
 use Prim.Native.Nat.{ℕ, _≤_, _-_, _+_, _*_}
-use lib.ListN.{length, take, drop, drop-of-length-le}
+use lib.ListN.{length, drop, drop-of-length-le}
 use native.Mathlib.Omega.{arith}
 use borrow.Author.Needs.{needs}
 use Rattle.hex.specs.Lines.{linesOf}
-use Rattle.hex.specs.Load.{upperAfter, stored}
-use Rattle.hex.specs.Inner.{Cut, allGood}
+use Rattle.hex.specs.Load.{stored}
+use Rattle.hex.specs.Inner.{allGood}
 use Rattle.hex.specs.declared.line.Head.{Head}
 use Rattle.hex.proofs.Good.{well-formed, formed}
 use Rattle.hex.proofs.Turns.{stored-line, all-line}
