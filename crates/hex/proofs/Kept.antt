@@ -4,11 +4,11 @@
 use mathlib.Core.Bool.{Bool, true, false}
 use mathlib.Core.List.{List, [], _∷_, _++_}
 use mathlib.Core.Path.{_≡_, refl, sym, ap, _∙_}
-use Prim.Native.Nat.{ℕ}
+use Prim.Native.Nat.{ℕ, _-_}
 use native.Mathlib.Omega.{arith}
 use borrow.Author.Tests.{eqb-true, eqb-false}
 use lib.Dec.{eqb}
-use lib.ListN.{length, getD}
+use lib.ListN.{length, getD, take}
 use Rattle.word.specs.Choice.{pick}
 use Rattle.word.proofs.Bools.{both, neither}
 use Rattle.memory.specs.Refusal.{refusedOf}
@@ -21,7 +21,7 @@ use Rattle.hex.specs.declared.Loaded.{Loaded}
 use Rattle.hex.proofs.Bytes.{placed-byte, length-placed}
 use Rattle.hex.proofs.Digits.{by-test}
 use Rattle.hex.proofs.Loads.{refused-2, refused-6, taken}
-use Rattle.hex.proofs.Turns.{none-bad}
+use Rattle.hex.proofs.Turns.{none-bad, good-before}
 
 module _ (text mem : List ℕ) where
   abbrev pub Bad : ℕ
@@ -43,6 +43,16 @@ module _ (text mem : List ℕ) where
       verdict
       (λ _ _ _ a m. (sym m, sym (ap (λ (x : Loaded). x .given) a), sym (ap (λ (x : Loaded). x .start) a)))
       (λ e z. absurd (h (sym (ap (λ (x : Loaded). x .refusal) (taken text mem e Bad refl z .0)))))
+
+  -- of a text with a bad line every line before the one that is named is good
+  pub named-first : loadOf text mem .answer .refusal ≡ 6 → allGood (length mem) 0 (take (loadOf text mem .answer .line - 1) (linesOf text)) ≡ true
+  named-first h =
+      let number : Loaded → ℕ = λ x. x .refusal in
+      by-test (refusedOf (length mem))
+      (λ e. let y = ap number (refused-2 text mem e .0) in absurd (omega arith))
+      (λ e. by-test (eqb Bad 0)
+      (λ z. let y = ap number (taken text mem e Bad refl (eqb-true Bad 0 z) .0) in absurd (omega arith))
+      (λ z. rw (ap (λ (x : Loaded). x .line) (refused-6 text mem e Bad refl (eqb-false Bad 0 z) .0)) at (good-before (length mem) 0 1 (linesOf text))))
 
   -- an accepted text has no bad line
   module _ (h : loadOf text mem .answer .refusal ≡ 0) where
