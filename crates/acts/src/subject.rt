@@ -1,5 +1,5 @@
 // What the cases of a file are about, by a letter: D instruction words, M masking, P places, B loads and stores, R refusals 2 and 3,
-// H what is done to a hart, C the public calls. Those of the calls are run by the program; all others here.
+// X texts of Intel HEX, H what is done to a hart, C the public calls. Those of the calls are run by the program; all others here.
 ghost use mathlib.Core.Path.{_≡_};
 ghost use Prim.Native.Nat.{_≤_};
 ghost use Rattle.lines.specs.Counted.{oneMore};
@@ -26,6 +26,7 @@ pub fn came(letter: u8, given: &[u64], got: &mut [u64; MOST]) -> usize
         b'P' => places::run(given, got),
         b'B' => bytes::run(given, got),
         b'R' => refused::run(given, got),
+        b'X' => hexed::run(given, got),
         b'H' => operation::run(given, got),
         _ => 0,
     }

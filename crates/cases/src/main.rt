@@ -125,6 +125,6 @@ fn every_file(list: &[u8]) -> Counts {
 
 fn main() {
     let files =
-        b"Ddecode.txt\nMmask.txt\nPplace.txt\nBbytes.txt\nRrefused.txt\nHaccess.txt\nHcsr.txt\nHenable.txt\nHregime.txt\nHlegal.txt\nHtrap.txt\nHreturns.txt\nCinstruction.txt\nCcontrol.txt\nCshadow.txt\nCpad.txt\nCfault.txt\nCrun.txt\nCrefusal.txt\nCprogram.txt\nCarithmetic.txt\n";
+        b"Ddecode.txt\nMmask.txt\nPplace.txt\nBbytes.txt\nRrefused.txt\nXhex.txt\nHaccess.txt\nHcsr.txt\nHenable.txt\nHregime.txt\nHlegal.txt\nHtrap.txt\nHreturns.txt\nCinstruction.txt\nCcontrol.txt\nCshadow.txt\nCpad.txt\nCfault.txt\nCrun.txt\nCrefusal.txt\nCprogram.txt\nCarithmetic.txt\n";
     report::total(every_file(files));
 }

@@ -1,5 +1,5 @@
 -- A refusal changes nothing: where the result of a call is not 0, every word of x and rest and every byte of memory is as given, and
--- the answer is 0, 0, 0 (`step-keeps`, `step-word-keeps`, `run-keeps`). The words may be any, also those that are no hart.
+-- the answer is 0, 0, 0 (`step-keeps`, `step-word-keeps`, `run-keeps`; for a load `load-keeps`). The words may be any, also those that are no hart.
 -- Assumes nothing.
 use mathlib.Core.Bool.{Bool, true, false}
 use mathlib.Core.List.{List, [], _∷_}
@@ -13,6 +13,9 @@ use Rattle.hart.specs.Run.{Run, once, runOf}
 use Rattle.hart.specs.Step.{stepFrom}
 use Rattle.hart.specs.Setters.{hartOf}
 use Rattle.call.specs.Call.{calledOf, refusalOf, runRefusalOf, stepFromCall, runCall}
+use Rattle.hex.specs.Load.{loadOf}
+use Rattle.hex.proofs.Kept.{refused-changes-nothing}
+use Rattle.sporhulma.specs.Load.{loadLeft}
 use Rattle.sporhulma.specs.Boundary.{Left, leftBy, leftOf, stepLeft, stepWordLeft, runLeft}
 use Rattle.hart.specs.Words.{restOf}
 use Rattle.hart.proofs.Worded.{same-words}
@@ -56,3 +59,8 @@ module _ (x rest m map : List ℕ) (twenty : length rest ≡ 20) where
   pub run-keeps : (budget : ℕ) → (runLeft budget x rest m map .result ≡ 0 → ⊥) → Kept x rest m (runLeft budget x rest m map)
   unfolding runLeft runCall
   run-keeps budget = refusal-keeps x rest m (runOf budget (hartOf x rest) m map) twenty (runRefusalOf budget (hartOf x rest) m map)
+
+-- a refused load changes no byte, and hands back no start address
+pub load-keeps : (text mem : List ℕ) → (loadLeft text mem .result ≡ 0 → ⊥)
+    → (loadLeft text mem .memory ≡ mem) × (loadLeft text mem .answer ≡ (loadOf text mem .answer .line ∷ 0 ∷ 0 ∷ []))
+load-keeps text mem h = let (m, g, s) = refused-changes-nothing text mem h in (m, rw (g, s))

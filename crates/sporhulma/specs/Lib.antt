@@ -1,2 +1,3 @@
 pub mod Boundary
+pub mod Load
 pub mod Words

@@ -1,7 +1,8 @@
-// The boundary for C and Rust (include/sporhulma.h): the three calls of crate `machine` over words and bytes, as a static library.
+// The boundary for C and Rust (include/sporhulma.h): the three calls of crate `machine` over words and bytes, and the load of crate `hex`, as a
+// static library.
 //
 // A hart is the words x and rest. Anything may be handed in; what a call leaves of every word and byte is stated in
-// specs/Boundary.antt.
+// specs/Boundary.antt, and what a load leaves in specs/Load.antt.
 use hart::engine;
 use hart::words;
 use meaning::Source;
@@ -9,6 +10,7 @@ ghost use mathlib.Core.Path.{_≡_};
 ghost use mathlib.Core.List.{[], _∷_};
 ghost use Rattle.sporhulma.specs.Words.{noHart};
 ghost use Rattle.sporhulma.specs.Boundary.{stepLeft, stepWordLeft, runLeft, leftFrom};
+ghost use Rattle.sporhulma.specs.Load.{loadLeft};
 
 // elp is neither 0 nor 1.
 fn no_hart(rest: &[u64; 20]) -> bool
@@ -109,4 +111,16 @@ pub extern "C" fn sporhulma_run(
     ensures answer { λ _. ⌜ now (answer .exit) ≡ runLeft budget (now (x .entry)) (now (rest .entry)) (now (mem .entry)) (now (map .entry)) .answer ⌝ }
 {
     call(x, rest, Source::Fetch, mem, map, budget, answer)
+}
+
+// A text of Intel HEX, loaded into memory.
+#[no_mangle]
+pub extern "C" fn sporhulma_load_hex(mem: &mut [u8], text: &[u8], answer: &mut [u64; 3]) -> u64
+    ensures result { λ r. ⌜ r ≡ loadLeft (now (text .entry)) (now (mem .entry)) .result ⌝ }
+    ensures memory { λ _. ⌜ now (mem .exit) ≡ loadLeft (now (text .entry)) (now (mem .entry)) .memory ⌝ }
+    ensures answer { λ _. ⌜ now (answer .exit) ≡ loadLeft (now (text .entry)) (now (mem .entry)) .answer ⌝ }
+{
+    let r = hex::load(text, mem);
+    *answer = [r.line, r.given, r.start];
+    r.refusal
 }

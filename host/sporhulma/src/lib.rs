@@ -87,6 +87,7 @@ extern "C" {
     fn sporhulma_step(x: *mut u64, rest: *mut u64, mem: *mut u8, mem_len: usize, map: *const u64, map_len: usize, answer: *mut u64) -> u64;
     fn sporhulma_step_word(x: *mut u64, rest: *mut u64, mem: *mut u8, mem_len: usize, map: *const u64, map_len: usize, word: u32, answer: *mut u64) -> u64;
     fn sporhulma_run(x: *mut u64, rest: *mut u64, mem: *mut u8, mem_len: usize, map: *const u64, map_len: usize, budget: u64, answer: *mut u64) -> u64;
+    fn sporhulma_load_hex(mem: *mut u8, mem_len: usize, text: *const u8, text_len: usize, answer: *mut u64) -> u64;
     fn sporhulma_family(word: u32) -> u64;
 }
 
@@ -144,6 +145,36 @@ pub fn run(h: &mut Hart, mem: &mut [u8], map: &[u64], budget: u64) -> Answer {
         )
     };
     Answer::of(refusal, answer)
+}
+
+/// What a load answers. Where `refusal` is not 0, nothing was changed and there is no start address.
+#[derive(Clone, Copy, PartialEq, Eq, Debug)]
+pub struct Loaded {
+    pub refusal: u64,
+    /// The first bad line, from 1, of refusal 6; else 0.
+    pub line: u64,
+    /// The last type 05's address.
+    pub start: Option<u64>,
+}
+
+/// Loads a text of Intel HEX into memory, whose first byte is [`BASE`].
+pub fn load_hex(memory: &mut [u8], text: &[u8]) -> Loaded {
+    let mut answer = [0; 3];
+    // SAFETY: as in `step`.
+    let refusal = unsafe {
+        sporhulma_load_hex(
+            memory.as_mut_ptr(),
+            memory.len(),
+            text.as_ptr(),
+            text.len(),
+            answer.as_mut_ptr(),
+        )
+    };
+    Loaded {
+        refusal,
+        line: answer[0],
+        start: (answer[1] != 0).then_some(answer[2]),
+    }
 }
 
 /// The decoder's verdict: 0 for a word that is no instruction of the hart, else its family (include/sporhulma.h lists them).

@@ -1,7 +1,7 @@
 //! The boundary as callers see it: from Rust through the wrapper, and from C through the header.
 
 use programs::{c_compiler, started};
-use sporhulma::{family, run, step, step_word, word, Answer, Hart, BASE};
+use sporhulma::{family, load_hex, run, step, step_word, word, Answer, Hart, Loaded, BASE};
 use std::path::{Path, PathBuf};
 
 /// addi a0, zero, 42
@@ -84,6 +84,49 @@ fn a_word_has_its_family() {
     // Those of M and Zbb count with the opcode that they stand in: clz, clzw, mul, mulw.
     let added = [0x6005_9513, 0x6005_951B, 0x02C5_8533, 0x02C5_853B];
     assert_eq!(added.map(family), [8, 9, 10, 11]);
+}
+
+/// The upper address of memory's first byte, `ADDI` at offset 16, a start address, and the end.
+const TEXT: &str = ":020000048000 7A\n:04001000 1305A002 32\r\n:04000005 80000010 67\n:00000001 FF";
+
+/// The text without the blanks that show its parts.
+fn hex(text: &str) -> Vec<u8> {
+    text.replace(' ', "").into_bytes()
+}
+
+#[test]
+fn a_text_is_loaded() {
+    let mut memory = vec![7; 4096];
+    let taken = Loaded {
+        refusal: 0,
+        line: 0,
+        start: Some(BASE + 16),
+    };
+    assert_eq!(load_hex(&mut memory, &hex(TEXT)), taken);
+    let mut expected = vec![7; 4096];
+    expected[16..20].copy_from_slice(&ADDI.to_le_bytes());
+    assert_eq!(memory, expected);
+}
+
+/// Memory of a wrong length, a wrong checksum in line 2, no end, and no bytes at all: nothing is changed, and no start is handed back.
+#[test]
+fn a_refused_text_changes_nothing() {
+    let refused = [
+        (4095, TEXT.to_string(), 2, 0),
+        (4096, TEXT.replace("32", "33"), 6, 2),
+        (4096, TEXT.replace(":00000001 FF", ""), 6, 4),
+        (4096, String::new(), 6, 1),
+    ];
+    for (length, text, refusal, line) in refused {
+        let mut memory = vec![7; length];
+        let expected = Loaded {
+            refusal,
+            line,
+            start: None,
+        };
+        assert_eq!(load_hex(&mut memory, &hex(&text)), expected);
+        assert_eq!(memory, vec![7; length]);
+    }
 }
 
 /// examples/c/step.c by the C compiler, so that the header is read by one.

@@ -1,0 +1,183 @@
+-- What the tests of a line say together, and what a good line is.
+-- Assumes nothing.
+use mathlib.Core.Bool.{Bool, true, false, _&&_}
+use mathlib.Core.List.{List}
+use mathlib.Core.Path.{_≡_, refl, sym, _∙_}
+use Prim.Native.Nat.{ℕ, suc, _+_, _-_, _*_, _/_, _%_, _<_, _≤_}
+use native.Mathlib.Nat.{zero-add}
+use native.Mathlib.Numerals.{add-one}
+use native.Mathlib.Omega.{arith}
+use borrow.Author.Tests.{eq-eqb, ne-eqb, eqb-true, leb-true, leb-false}
+use lib.Dec.{eqb, leb}
+use lib.ListN.{length, getD, take, drop, set, length-drop, drop-of-length-le}
+use lib.Seq.{sets, drop-cons, getD-take, getD-drop, length-take-le}
+use Rattle.word.specs.Choice.{pick}
+use Rattle.word.proofs.Bools.{both}
+use Rattle.hex.specs.Digits.{hexPairs, total}
+use Rattle.hex.specs.Line.{bytesOf, byteOf, countOf, offsetOf, kindOf, colon, counted, shaped, wellFormed, checked, isRead, addressOf, dataOf, inside, good}
+use Rattle.hex.specs.Load.{placed}
+use Rattle.hex.specs.Inner.{sumFrom, sumOf, headOf}
+use Rattle.hex.specs.declared.line.Head.{Head}
+use Rattle.hex.proofs.Digits.{by-test}
+use Rattle.hex.proofs.Pairs.{length-pairs, even}
+
+-- the tests in another order
+turned : (n f z k : Bool) → (n && f) && (z && k) ≡ z && (n && (f && k))
+turned true true z k = refl
+turned true false true k = refl
+turned true false false k = refl
+turned false f true k = refl
+turned false f false k = refl
+
+-- the sum is 0 exactly for five hex pairs or more behind a colon, with the right checksum
+summed : (c b x n f k : Bool) (total : ℕ) → (b ≡ false → n ≡ false)
+    → (c && (x && (n && f))) && (eqb total 0 && k) ≡ eqb (pick (c && b) (pick x total 256) 256) 0 && (n && (f && k))
+summed false b x n f k total h = refl
+summed true true true n f k total h = turned n f (eqb total 0) k
+summed true true false n f k total h = refl
+summed true false true n f k total h = rw (h refl)
+summed true false false n f k total h = refl
+
+-- a line with the sum 0
+zero-sum : (c b x : Bool) (total : ℕ) → pick (c && b) (pick x total 256) 256 ≡ 0 → (x ≡ true) × (b ≡ true)
+zero-sum true true true total h = (refl, refl)
+zero-sum true true false total h = absurd (omega arith)
+zero-sum true false x total h = absurd (omega arith)
+zero-sum false b x total h = absurd (omega arith)
+
+pub paired : (l : List ℕ) → sumOf l ≡ 0 → (hexPairs (drop 1 l) ≡ true) × (11 ≤ length l)
+unfolding sumOf sumFrom
+paired l h =
+    let (x, b) = zero-sum (colon l) (leb 11 (length l)) (hexPairs (drop 1 l)) _ h in
+    (x, leb-true 11 (length l) b)
+
+module _ (l : List ℕ) where
+  bytes-length : length (bytesOf l) ≡ (length l - 1) / 2
+  bytes-length = length-pairs (drop 1 l) ∙ rw length-drop
+
+  short : leb 11 (length l) ≡ false → counted l ≡ false
+  unfolding counted
+  short h =
+      let k = leb-false 11 (length l) h in
+      ne-eqb (length (bytesOf l)) (countOf l + 5) (λ e. omega (arith, bytes-length))
+
+  pub good-is : (len upper : ℕ)
+      → good len upper l ≡ eqb (sumOf l) 0 && (counted l && (shaped (kindOf l) (countOf l) (offsetOf l) && (isRead (kindOf l) && inside len (kindOf l) (countOf l) (addressOf upper l))))
+  unfolding good wellFormed checked sumOf sumFrom
+  good-is len upper = rw zero-add (summed (colon l) (leb 11 (length l)) (hexPairs (drop 1 l)) (counted l) _ _ (total (bytesOf l) % 256) short)
+
+  pub bad-sum : (len upper : ℕ) → (sumOf l ≡ 0 → ⊥) → good len upper l ≡ false
+  bad-sum len upper n = good-is len upper ∙ rw (ne-eqb (sumOf l) 0 n)
+
+  -- a line of hex pairs is as long as its count says
+  module _ (h : hexPairs (drop 1 l) ≡ true) where
+    pub counted-is : length l ≡ 2 * countOf l + 11 → counted l ≡ true
+    unfolding counted
+    counted-is e = eq-eqb (length (bytesOf l)) (countOf l + 5) (omega (arith, bytes-length))
+
+    pub counted-long : counted l ≡ true → length l ≡ 2 * countOf l + 11
+    unfolding counted
+    counted-long e =
+        let q = eqb-true (length (bytesOf l)) (countOf l + 5) e in
+        let k = simp length-drop at (even (drop 1 l) h) in
+        omega (arith, bytes-length)
+
+  -- what is left to test of a line with the sum 0
+  module _ (h : Head) (f : h ≡ headOf l) (z : sumOf l ≡ 0) where
+    pub good-by : (len upper : ℕ) → length l ≡ 2 * h .count + 11
+        → shaped (h .kind) (h .count) (h .offset) && (isRead (h .kind) && inside len (h .kind) (h .count) (upper * 65536 + h .offset)) ≡ good len upper l
+    unfolding addressOf
+    good-by len upper n =
+        let m = rw f at n in
+        rw (f, good-is len upper, eq-eqb (sumOf l) 0 z, counted-is (paired l z .0) m)
+
+    pub bad-length : (len upper : ℕ) → (length l ≡ 2 * h .count + 11 → ⊥) → good len upper l ≡ false
+    bad-length len upper n =
+        by-test (counted l)
+        (λ c. absurd (n (rw f (counted-long (paired l z .0) c))))
+        (λ c. rw (good-is len upper, eq-eqb (sumOf l) 0 z, c))
+
+  -- a well-formed line
+  pub formed : wellFormed l ≡ true
+      → (hexPairs (drop 1 l) ≡ true) × (length l ≡ 2 * countOf l + 11) × (shaped (kindOf l) (countOf l) (offsetOf l) ≡ true)
+  unfolding wellFormed
+  formed w =
+      let s = shaped (kindOf l) (countOf l) (offsetOf l) in
+      let h = both (colon l) (hexPairs (drop 1 l) && (counted l && s)) w .1 in
+      let (x, n) = both (hexPairs (drop 1 l)) (counted l && s) h in
+      let (m, f) = both (counted l) s n in
+      (x, counted-long x m, f)
+
+  -- the data of types 04 and 05 are in it
+  pub room : wellFormed l ≡ true → (kindOf l ≡ 4 → length l ≡ 15) × (kindOf l ≡ 5 → length l ≡ 19)
+  unfolding shaped
+  room w =
+      let (x, n, s) = formed w in (
+        (λ k. let c = eqb-true (countOf l) 2 (both (eqb (countOf l) 2) (eqb (offsetOf l) 0) (rw k at s) .0) in omega arith),
+        (λ k. let c = eqb-true (countOf l) 4 (both (eqb (countOf l) 4) (eqb (offsetOf l) 0) (rw k at s) .0) in omega arith),
+      )
+
+-- the data of a line with so many of them
+module _ (l : List ℕ) (count : ℕ) (n : 2 * count + 11 ≡ length l) where
+  data-long : length (take count (drop 4 (bytesOf l))) ≡ count
+  data-long = length-take-le count (drop 4 (bytesOf l)) (simp length-drop (omega (arith, bytes-length l)))
+
+  -- the byte k stored, and what is left behind it
+  pub fill-turn : (mem : List ℕ) (to k b : ℕ) → k < count → b ≡ byteOf l (4 + k)
+      → sets (set mem (to + k) b) (to + (k + 1)) (drop (k + 1) (take count (drop 4 (bytesOf l)))) ≡ sets mem (to + k) (drop k (take count (drop 4 (bytesOf l))))
+  unfolding byteOf
+  fill-turn mem to k b h e =
+      let d = take count (drop 4 (bytesOf l)) in
+      let f : getD d k 0 ≡ b = getD-take count (drop 4 (bytesOf l)) k 0 h ∙ getD-drop 4 (bytesOf l) k 0 ∙ sym e in
+      let g : to + (k + 1) ≡ suc (to + k) = omega arith in
+      rw (drop-cons d k 0 (omega (arith, data-long)), f, g, add-one)
+
+  pub fill-end : (mem : List ℕ) (to k : ℕ) → count ≤ k → mem ≡ sets mem to (drop k (take count (drop 4 (bytesOf l))))
+  fill-end mem to k h = rw (drop-of-length-le (take count (drop 4 (bytesOf l))) {i = k} (omega (arith, data-long)))
+
+-- a good line
+module _ (len upper : ℕ) (l : List ℕ) (g : good len upper l ≡ true) where
+  pub well-formed : wellFormed l ≡ true
+  unfolding good
+  well-formed = both (wellFormed l) (checked l && (isRead (kindOf l) && inside len (kindOf l) (countOf l) (addressOf upper l))) g .0
+
+  within : inside len (kindOf l) (countOf l) (addressOf upper l) ≡ true
+  unfolding good
+  within =
+      let i = inside len (kindOf l) (countOf l) (addressOf upper l) in
+      let r = both (wellFormed l) (checked l && (isRead (kindOf l) && i)) g .1 in
+      both (isRead (kindOf l)) i (both (checked l) (isRead (kindOf l) && i) r .1) .1
+
+  pub data-length : length (dataOf l) ≡ countOf l
+  unfolding dataOf
+  data-length = data-long l (countOf l) (sym (formed l well-formed .1))
+
+  -- its data are in memory
+  pub data-inside : kindOf l ≡ 0 → 0 < countOf l → (0x8000_0000 ≤ addressOf upper l) × (addressOf upper l + countOf l ≤ 0x8000_0000 + len)
+  unfolding inside
+  data-inside k n =
+      let h = rw (eq-eqb (kindOf l) 0 k, ne-eqb (countOf l) 0 (λ e. omega arith)) at within in
+      let (a, b) = both (leb 0x8000_0000 (addressOf upper l)) (leb (addressOf upper l + countOf l) (0x8000_0000 + len)) h in
+      (leb-true 0x8000_0000 (addressOf upper l) a, leb-true (addressOf upper l + countOf l) (0x8000_0000 + len) b)
+
+  -- the same of the fields as the code has them
+  pub head-inside : (h : Head) → h ≡ headOf l → h .kind ≡ 0 → 0 < h .count
+      → (0x8000_0000 ≤ upper * 65536 + h .offset) × (upper * 65536 + h .offset + h .count ≤ 0x8000_0000 + len) × (2 * h .count + 11 ≡ length l)
+  unfolding addressOf
+  head-inside h f k n =
+      let (p, q) = data-inside (rw f at k) (rw f at n) in
+      rw f (p, q, sym (formed l well-formed .1))
+
+-- what a line does to memory
+module _ (upper : ℕ) (l mem : List ℕ) (h : Head) (f : h ≡ headOf l) where
+  pub placed-other : (h .kind ≡ 0 → ⊥) → mem ≡ placed upper l mem
+  unfolding placed
+  placed-other n = rw (ne-eqb (kindOf l) 0 (λ e. n (rw f e)))
+
+  pub placed-none : h .kind ≡ 0 → h .count ≡ 0 → mem ≡ placed upper l mem
+  unfolding placed dataOf
+  placed-none k n = let c = rw f at n in rw (eq-eqb (kindOf l) 0 (rw f at k), c)
+
+  pub placed-data : h .kind ≡ 0 → sets mem (upper * 65536 + h .offset - 0x8000_0000) (take (h .count) (drop 4 (bytesOf l))) ≡ placed upper l mem
+  unfolding placed dataOf addressOf
+  placed-data k = rw (eq-eqb (kindOf l) 0 (rw f at k), f)

@@ -1,0 +1,12 @@
+-- The laws of HEX texts that belong to no one function.
+pub mod Digits
+pub mod Pairs
+pub mod Lines
+pub mod Scans
+pub mod Good
+pub mod Turns
+pub mod Whole
+pub mod Loads
+pub mod Bytes
+pub mod Kept
+pub mod Order

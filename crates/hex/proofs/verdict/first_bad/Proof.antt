@@ -1,0 +1,134 @@
+-- `hex::verdict::first_bad` meets its contract: the first bad line is that of the lines from `at` on, read with what the lines before said. Assumes nothing.
+use mathlib.Core.List.{List}
+use mathlib.Core.Path.{_≡_, refl, sym, ap, _∙_}
+use Prim.Native.Nat.{ℕ, _≤_, _-_, _+_}
+use lib.ListN.{length, take, drop, drop-of-length-le}
+use native.Mathlib.Omega.{arith}
+use borrow.Author.Needs.{needs}
+use Rattle.hex.specs.Lines.{linesOf}
+use Rattle.hex.specs.Load.{noStart, lastStart, firstBad}
+use Rattle.hex.specs.Inner.{sumOf, Cut}
+use Rattle.hex.specs.declared.line.Head.{Head}
+use Rattle.hex.proofs.Good.{paired, bad-sum, well-formed}
+use Rattle.hex.proofs.Lines.{some, parts}
+use Rattle.hex.proofs.Turns.{no-text, bad-line, good-line, end-line, start-line}
+use Rattle.hex.proofs.verdict.first_bad.Statement.{statement}
+use Rattle.hex.proofs.verdict.first_bad.Tie as tie
+
+abbrev Inv-loop : tie.InvT-loop
+Inv-loop text len upper₀ start₀ n₀ at₀ upper start n at =
+    (at ≤ length text) × (1 ≤ n) × (n ≤ at + 1) × (upper ≤ 65535)
+    × (firstBad len 0 1 (linesOf text) ≡ firstBad len upper n (linesOf (drop at text)))
+    × (lastStart noStart (linesOf text) ≡ lastStart start (linesOf (drop at text)))
+
+abbrev μ-loop : tie.MeasureT-loop
+μ-loop text len upper₀ start₀ n₀ at₀ upper start n at = length text - at
+
+-- a line that is not a colon and hex pairs, or has a wrong checksum
+returns : tie.Need-returns Inv-loop μ-loop
+returns c =
+    let r = c .before .before .read .ensures in
+    let a = c .before .before .before .before in
+    let s = a .before .before .args in (
+      sym (a .loop .inv .4 ∙ bad-line (s .len) (a .loop .upper) (some (s .text .now) (a .loop .at) (c .before .before .before .loop-test .taken)) (a .loop .n) (bad-sum _ (s .len) (a .loop .upper) (λ z. c .if1 .taken (r .0 ∙ z)))),
+      λ z. absurd (omega arith),
+    )
+
+-- a line that has the sum 0
+module _ (c : tie.Else1 Inv-loop μ-loop) where
+  cut : Cut (c .before .before .before .before .before .before .args .text .now) (c .before .before .before .before .loop .at) (c .before .before .read .result .stop) (c .before .before .read .result .next)
+  cut = c .before .before .read .ensures .1 (omega arith)
+
+  zero : sumOf (take (c .before .before .read .result .stop - c .before .before .before .before .loop .at) (drop (c .before .before .before .before .loop .at) (c .before .before .before .before .before .before .args .text .now))) ≡ 0
+  zero = ap sumOf (sym (parts (cut .lines) .0)) ∙ sym (c .before .before .read .ensures .0) ∙ c .if1 .left
+
+is-good-requires : tie.Need-is-good-requires Inv-loop μ-loop
+is-good-requires c κs =
+    let i = c .before .before in
+    let a = i .before .before .before .before in
+    ((zero i, a .loop .inv .3, a .before .before .pre), c .fields .ensures)
+
+-- it is good
+upper-after-requires : tie.Need-upper-after-requires Inv-loop μ-loop
+upper-after-requires c κs =
+    let a = c .before .before .before .before .before .before .before .before in
+    (well-formed (a .before .before .args .len) (a .loop .upper) _ (sym (c .before .is-good .ensures) ∙ c .if2 .taken), ap (λ (h : Head). h .kind) (c .before .before .fields .ensures .0), a .loop .inv .3)
+
+start-after-requires : tie.Need-start-after-requires Inv-loop μ-loop
+start-after-requires c κs = let (p, q, _) = upper-after-requires (c .before) κs in (p, q)
+
+-- the end record
+returns-2 : tie.Need-returns-2 Inv-loop μ-loop
+unfolding lastStart
+returns-2 c =
+    let i = c .before .before .before .before in
+    let k = cut (i .before .before .before .before) in
+    let a = i .before .before .before .before .before .before .before .before in
+    let s = a .before .before .args in
+    let more = linesOf (drop (i .before .before .before .before .before .before .read .result .next) (s .text .now)) in
+    let e = sym (ap (λ (h : Head). h .kind) (i .before .before .fields .ensures .0)) ∙ c .before .if3 .taken in (
+      c .later .ensures ∙ sym (a .loop .inv .4 ∙ end-line (s .len) (a .loop .upper) (k .lines) (a .loop .n) (sym (i .before .is-good .ensures) ∙ i .if2 .taken) e),
+      λ z.
+          let f = no-text (a .loop .n + 1) more (omega arith) (sym (c .later .ensures) ∙ z) in
+          c .before .before .start-after .ensures ∙ sym (a .loop .inv .5 ∙ start-line (s .len) (a .loop .upper) (k .lines) (a .loop .start) ∙ ap (lastStart _) f),
+    )
+
+-- a good line before it
+loop-again : tie.Need-loop-again Inv-loop μ-loop
+loop-again c =
+    let i = c .before .before .before in
+    let k = cut (i .before .before .before .before) in
+    let a = i .before .before .before .before .before .before .before .before in
+    let s = a .before .before .args in
+    let u = c .before .before .upper-after .ensures in
+    let e = ap (λ (h : Head). h .kind) (i .before .before .fields .ensures .0) in (
+      k .last,
+      omega arith,
+      omega (arith, k .on),
+      u .1,
+      a .loop .inv .4 ∙ good-line (s .len) (a .loop .upper) (k .lines) (a .loop .n) (sym (i .before .is-good .ensures) ∙ i .if2 .taken) (λ z. c .if3 .left (e ∙ z)) ∙ rw (← u .0) refl,
+      a .loop .inv .5 ∙ start-line (s .len) (a .loop .upper) (k .lines) (a .loop .start) ∙ rw (← c .before .start-after .ensures) refl,
+    )
+
+-- it is not
+returns-3 : tie.Need-returns-3 Inv-loop μ-loop
+returns-3 c =
+    let i = c .before .before .before .before in
+    let a = i .before .before .before .before in
+    let s = a .before .before .args in (
+      sym (a .loop .inv .4 ∙ bad-line (s .len) (a .loop .upper) (cut i .lines) (a .loop .n) (sym (c .before .is-good .ensures) ∙ c .if2 .left)),
+      λ z. absurd (omega arith),
+    )
+
+-- nothing ended the file
+returns-4 : tie.Need-returns-4 Inv-loop μ-loop
+unfolding linesOf firstBad
+returns-4 c =
+    let a = c .before in
+    let s = a .before .before .args in
+    let e = drop-of-length-le (s .text .now) {i = a .loop .at} (omega arith) in
+    (sym (a .loop .inv .4 ∙ ap (λ (u : List ℕ). firstBad (s .len) (a .loop .upper) (a .loop .n) (linesOf u)) e), λ z. absurd (omega arith))
+
+pub first-bad-spec : {M : Type 1} → statement M
+first-bad-spec =
+    tie.close
+    (tie.spec
+    Inv-loop
+    μ-loop
+    (λ c. (omega arith, omega arith, omega arith, omega arith, refl, refl))
+    (λ c κs. search needs)
+    returns
+    (λ c. cut c .low)
+    (λ c. cut c .low)
+    (λ c. cut c .high)
+    (λ c κs. paired _ (zero (c .before)))
+    is-good-requires
+    upper-after-requires
+    start-after-requires
+    (λ c. search needs)
+    (λ c κs. search needs)
+    returns-2
+    (λ c. omega (arith, cut (c .before .before .before .before .before .before .before)))
+    loop-again
+    returns-3
+    returns-4)

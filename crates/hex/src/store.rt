@@ -1,0 +1,60 @@
+// The second pass: puts the data of every line into memory.
+ghost use mathlib.Core.Path.{_≡_};
+ghost use mathlib.Core.Bool.{true};
+ghost use Prim.Native.Nat.{_+_, _*_, _≤_};
+ghost use lib.ListN.{length, take, drop};
+ghost use lib.Seq.{sets};
+ghost use Rattle.hex.specs.Digits.{hexPairs};
+ghost use Rattle.hex.specs.Lines.{linesOf};
+ghost use Rattle.hex.specs.Line.{bytesOf, good};
+ghost use Rattle.hex.specs.Load.{placed, stored};
+ghost use Rattle.hex.specs.Inner.{headOf, allGood};
+use super::line;
+use super::line::Head;
+use super::pair;
+use super::scan;
+
+// The data of a line, put at a place.
+fn fill(mem: &mut [u8], to: usize, line: &[u8], count: usize)
+    requires { ⌜ (hexPairs (drop 1 (now line)) ≡ true) × (2 * count + 11 ≡ length (now line)) × (to + count ≤ length (now mem)) ⌝ }
+    ensures { λ _. ⌜ now (mem .exit) ≡ sets (now (mem .entry)) to (take count (drop 4 (bytesOf (now (line .entry))))) ⌝ }
+{
+    let mut k = 0;
+    while k < count {
+        mem[to + k] = pair::byte(line, 4 + k) as u8;
+        k = k + 1;
+    }
+}
+
+// The data of a good line, put at their address.
+fn put(mem: &mut [u8], line: &[u8], h: Head, upper: u64)
+    requires { ⌜ (good (length (now mem)) upper (now line) ≡ true) × (upper ≤ 65535) ⌝ }
+    requires { ⌜ (h ≡ headOf (now line)) × (h .count ≤ 255) × (h .offset ≤ 65535) ⌝ }
+    ensures { λ _. ⌜ now (mem .exit) ≡ placed upper (now (line .entry)) (now (mem .entry)) ⌝ }
+{
+    let count = h.count;
+    if h.kind == 0 {
+        if 0 < count {
+            let address = upper * 65536 + h.offset;
+            let to = (address - 0x8000_0000) as usize;
+            fill(mem, to, line, count as usize);
+        }
+    }
+}
+
+// The data of every line. A good line is as long as its count says.
+pub fn store(text: &[u8], mem: &mut [u8])
+    requires { ⌜ allGood (length (now mem)) 0 (linesOf (now text)) ≡ true ⌝ }
+    ensures { λ _. ⌜ now (mem .exit) ≡ stored 0 (now (mem .entry)) (linesOf (now (text .entry))) ⌝ }
+{
+    let mut upper: u64 = 0;
+    let mut at = 0;
+    while at < text.len() {
+        let stop = at + (11 + 2 * pair::any(text, at + 1) as usize);
+        let line = &text[at..stop];
+        let h = line::fields(line);
+        put(&mut *mem, line, h, upper);
+        upper = line::upper_after(upper, line, h.kind);
+        at = scan::end(text, stop);
+    }
+}
