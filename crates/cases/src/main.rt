@@ -1,7 +1,7 @@
 // Runs the files of cases and prints a line for each case, and the counts.
 //
 // A file of another kind of case gets a line in `main`, with a letter, which gets an arm in `acts::subject`, and a module with a
-// `run` of its own (crates `rules` and `acts`).
+// `run` of its own (crates `rules`, `hexed` and `acts`).
 ghost use Prim.Native.Nat.{_≤_};
 ghost use lib.ListN.{length};
 ghost use Rattle.lines.specs.Most.{most};

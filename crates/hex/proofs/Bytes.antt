@@ -14,7 +14,6 @@ use Rattle.word.proofs.Either.{either}
 use Rattle.hex.specs.Line.{kindOf, countOf, addressOf, dataOf, good}
 use Rattle.hex.specs.Load.{placed}
 use Rattle.hex.specs.Named.{names, dataAt}
-use Rattle.hex.specs.Inner.{headOf}
 use Rattle.hex.proofs.Digits.{by-test}
 use Rattle.hex.proofs.Good.{data-length, data-inside, placed-other}
 
@@ -51,7 +50,7 @@ module _ (upper : ℕ) (l mem : List ℕ) (g : good (length mem) upper l ≡ tru
 
   other : (kindOf l ≡ 0 → ⊥) → After
   unfolding names
-  other h = rw (ne-eqb (kindOf l) 0 h) (ap (λ (m : List ℕ). getD m j 0) (sym (placed-other upper l mem (headOf l) refl h)))
+  other h = rw (ne-eqb (kindOf l) 0 h) (ap (λ (m : List ℕ). getD m j 0) (sym (placed-other upper l mem h)))
 
   module _ (k : kindOf l ≡ 0) where
     lower : 0x8000_0000 + j < addressOf upper l → After

@@ -16,8 +16,7 @@ use Rattle.word.proofs.Bools.{both}
 use Rattle.hex.specs.Digits.{hexPairs, total}
 use Rattle.hex.specs.Line.{bytesOf, byteOf, countOf, offsetOf, kindOf, colon, counted, shaped, wellFormed, checked, isRead, addressOf, dataOf, inside, good}
 use Rattle.hex.specs.Load.{placed}
-use Rattle.hex.specs.Inner.{sumFrom, sumOf, headOf}
-use Rattle.hex.specs.declared.line.Head.{Head}
+use Rattle.hex.specs.Inner.{sumFrom, sumOf}
 use Rattle.hex.proofs.Digits.{by-test}
 use Rattle.hex.proofs.Pairs.{length-pairs, even}
 
@@ -83,19 +82,14 @@ module _ (l : List ℕ) where
         omega (arith, bytes-length)
 
   -- what is left to test of a line with the sum 0
-  module _ (h : Head) (f : h ≡ headOf l) (z : sumOf l ≡ 0) where
-    pub good-by : (len upper : ℕ) → length l ≡ 2 * h .count + 11
-        → shaped (h .kind) (h .count) (h .offset) && (isRead (h .kind) && inside len (h .kind) (h .count) (upper * 65536 + h .offset)) ≡ good len upper l
+  module _ (z : sumOf l ≡ 0) (len upper : ℕ) where
+    pub good-by : length l ≡ 2 * countOf l + 11
+        → shaped (kindOf l) (countOf l) (offsetOf l) && (isRead (kindOf l) && inside len (kindOf l) (countOf l) (upper * 65536 + offsetOf l)) ≡ good len upper l
     unfolding addressOf
-    good-by len upper n =
-        let m = rw f at n in
-        rw (f, good-is len upper, eq-eqb (sumOf l) 0 z, counted-is (paired l z .0) m)
+    good-by n = rw (good-is len upper, eq-eqb (sumOf l) 0 z, counted-is (paired l z .0) n)
 
-    pub bad-length : (len upper : ℕ) → (length l ≡ 2 * h .count + 11 → ⊥) → good len upper l ≡ false
-    bad-length len upper n =
-        by-test (counted l)
-        (λ c. absurd (n (rw f (counted-long (paired l z .0) c))))
-        (λ c. rw (good-is len upper, eq-eqb (sumOf l) 0 z, c))
+    pub bad-length : (length l ≡ 2 * countOf l + 11 → ⊥) → good len upper l ≡ false
+    bad-length n = by-test (counted l) (λ c. absurd (n (counted-long (paired l z .0) c))) (λ c. rw (good-is len upper, eq-eqb (sumOf l) 0 z, c))
 
   -- a well-formed line
   pub formed : wellFormed l ≡ true
@@ -108,14 +102,24 @@ module _ (l : List ℕ) where
       let (m, f) = both (counted l) s n in
       (x, counted-long x m, f)
 
+  pub long : wellFormed l ≡ true → (hexPairs (drop 1 l) ≡ true) × (11 ≤ length l)
+  long w = let (x, n, _) = formed w in (x, omega arith)
+
   -- the data of types 04 and 05 are in it
-  pub room : wellFormed l ≡ true → (kindOf l ≡ 4 → length l ≡ 15) × (kindOf l ≡ 5 → length l ≡ 19)
+  room : (k count : ℕ) → kindOf l ≡ k → shaped k (countOf l) (offsetOf l) ≡ eqb (countOf l) count && eqb (offsetOf l) 0 → wellFormed l ≡ true
+      → (hexPairs (drop 1 l) ≡ true) × (length l ≡ 2 * count + 11)
+  room k count e f w =
+      let (x, n, s) = formed w in
+      let c = eqb-true (countOf l) count (both (eqb (countOf l) count) (eqb (offsetOf l) 0) (sym f ∙ rw e at s) .0) in
+      (x, omega arith)
+
+  pub room-4 : wellFormed l ≡ true → kindOf l ≡ 4 → (hexPairs (drop 1 l) ≡ true) × (length l ≡ 15)
   unfolding shaped
-  room w =
-      let (x, n, s) = formed w in (
-        (λ k. let c = eqb-true (countOf l) 2 (both (eqb (countOf l) 2) (eqb (offsetOf l) 0) (rw k at s) .0) in omega arith),
-        (λ k. let c = eqb-true (countOf l) 4 (both (eqb (countOf l) 4) (eqb (offsetOf l) 0) (rw k at s) .0) in omega arith),
-      )
+  room-4 w e = room 4 2 e refl w
+
+  pub room-5 : wellFormed l ≡ true → kindOf l ≡ 5 → (hexPairs (drop 1 l) ≡ true) × (length l ≡ 19)
+  unfolding shaped
+  room-5 w e = room 5 4 e refl w
 
 -- the data of a line with so many of them
 module _ (l : List ℕ) (count : ℕ) (n : 2 * count + 11 ≡ length l) where
@@ -160,24 +164,17 @@ module _ (len upper : ℕ) (l : List ℕ) (g : good len upper l ≡ true) where
       let (a, b) = both (leb 0x8000_0000 (addressOf upper l)) (leb (addressOf upper l + countOf l) (0x8000_0000 + len)) h in
       (leb-true 0x8000_0000 (addressOf upper l) a, leb-true (addressOf upper l + countOf l) (0x8000_0000 + len) b)
 
-  -- the same of the fields as the code has them
-  pub head-inside : (h : Head) → h ≡ headOf l → h .kind ≡ 0 → 0 < h .count
-      → (0x8000_0000 ≤ upper * 65536 + h .offset) × (upper * 65536 + h .offset + h .count ≤ 0x8000_0000 + len) × (2 * h .count + 11 ≡ length l)
-  unfolding addressOf
-  head-inside h f k n =
-      let (p, q) = data-inside (rw f at k) (rw f at n) in
-      rw f (p, q, sym (formed l well-formed .1))
-
 -- what a line does to memory
-module _ (upper : ℕ) (l mem : List ℕ) (h : Head) (f : h ≡ headOf l) where
-  pub placed-other : (h .kind ≡ 0 → ⊥) → mem ≡ placed upper l mem
+module _ (upper : ℕ) (l mem : List ℕ) where
+  pub placed-other : (kindOf l ≡ 0 → ⊥) → mem ≡ placed upper l mem
   unfolding placed
-  placed-other n = rw (ne-eqb (kindOf l) 0 (λ e. n (rw f e)))
+  placed-other n = rw (ne-eqb (kindOf l) 0 n)
 
-  pub placed-none : h .kind ≡ 0 → h .count ≡ 0 → mem ≡ placed upper l mem
-  unfolding placed dataOf
-  placed-none k n = let c = rw f at n in rw (eq-eqb (kindOf l) 0 (rw f at k), c)
+  module _ (k : kindOf l ≡ 0) where
+    pub placed-none : countOf l ≡ 0 → mem ≡ placed upper l mem
+    unfolding placed dataOf
+    placed-none n = rw (eq-eqb (kindOf l) 0 k, n)
 
-  pub placed-data : h .kind ≡ 0 → sets mem (upper * 65536 + h .offset - 0x8000_0000) (take (h .count) (drop 4 (bytesOf l))) ≡ placed upper l mem
-  unfolding placed dataOf addressOf
-  placed-data k = rw (eq-eqb (kindOf l) 0 (rw f at k), f)
+    pub placed-data : sets mem (upper * 65536 + offsetOf l - 0x8000_0000) (take (countOf l) (drop 4 (bytesOf l))) ≡ placed upper l mem
+    unfolding placed dataOf addressOf
+    placed-data = rw (eq-eqb (kindOf l) 0 k)

@@ -10,9 +10,8 @@ use lib.ListN.{length, take, drop}
 use Rattle.word.specs.Choice.{pick}
 use Rattle.hex.specs.Digits.{hexPairs, pairsOf, total}
 use Rattle.hex.specs.Lines.{linesOf}
-use Rattle.hex.specs.Line.{countOf, offsetOf, kindOf, colon, good}
+use Rattle.hex.specs.Line.{colon, good}
 use Rattle.hex.specs.Load.{upperAfter}
-use Rattle.hex.specs.declared.line.Head.{Head}
 
 -- what the code makes of a byte, the value of a digit where it is one
 abbrev pub valueOf : (b : ℕ) → ℕ
@@ -63,10 +62,6 @@ pub record Cut (t : List ℕ) (at stop next : ℕ) : Type 0 where
   pub on : at < next
   pub last : next ≤ length t
   pub lines : linesOf (drop at t) ≡ take (stop - at) (drop at t) ∷ linesOf (drop next t)
-
--- the fields before the data
-abbrev pub headOf : (l : List ℕ) → Head
-headOf l = record { count = countOf l; offset = offsetOf l; kind = kindOf l }
 
 -- every line is good by itself
 unfoldable pub allGood : (len upper : ℕ) → (ls : List (List ℕ)) → Bool

@@ -6,7 +6,7 @@ ghost use Rattle.hex.specs.Load.{loadOf};
 mod pair;
 // A line of a text: its hex pairs, and its end.
 mod scan;
-// One line: its fields, whether it is good, and what it sets.
+// One line: whether it is good, and what it sets.
 mod line;
 // The first pass: the first bad line.
 mod verdict;

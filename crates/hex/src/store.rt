@@ -8,9 +8,8 @@ ghost use Rattle.hex.specs.Digits.{hexPairs};
 ghost use Rattle.hex.specs.Lines.{linesOf};
 ghost use Rattle.hex.specs.Line.{bytesOf, good};
 ghost use Rattle.hex.specs.Load.{placed, stored};
-ghost use Rattle.hex.specs.Inner.{headOf, allGood};
+ghost use Rattle.hex.specs.Inner.{allGood};
 use super::line;
-use super::line::Head;
 use super::pair;
 use super::scan;
 
@@ -27,15 +26,14 @@ fn fill(mem: &mut [u8], to: usize, line: &[u8], count: usize)
 }
 
 // The data of a good line, put at their address.
-fn put(mem: &mut [u8], line: &[u8], h: Head, upper: u64)
+fn put(mem: &mut [u8], line: &[u8], upper: u64)
     requires { ⌜ (good (length (now mem)) upper (now line) ≡ true) × (upper ≤ 65535) ⌝ }
-    requires { ⌜ (h ≡ headOf (now line)) × (h .count ≤ 255) × (h .offset ≤ 65535) ⌝ }
     ensures { λ _. ⌜ now (mem .exit) ≡ placed upper (now (line .entry)) (now (mem .entry)) ⌝ }
 {
-    let count = h.count;
-    if h.kind == 0 {
+    let count = pair::byte(line, 0);
+    if pair::byte(line, 3) == 0 {
         if 0 < count {
-            let address = upper * 65536 + h.offset;
+            let address = upper * 65536 + pair::half(line, 1);
             let to = (address - 0x8000_0000) as usize;
             fill(mem, to, line, count as usize);
         }
@@ -52,9 +50,8 @@ pub fn store(text: &[u8], mem: &mut [u8])
     while at < text.len() {
         let stop = at + (11 + 2 * pair::any(text, at + 1) as usize);
         let line = &text[at..stop];
-        let h = line::fields(line);
-        put(&mut *mem, line, h, upper);
-        upper = line::upper_after(upper, line, h.kind);
+        put(&mut *mem, line, upper);
+        upper = line::upper_after(upper, line);
         at = scan::end(text, stop);
     }
 }

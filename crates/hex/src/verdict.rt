@@ -6,6 +6,7 @@ ghost use Rattle.hex.specs.Lines.{linesOf};
 ghost use Rattle.hex.specs.Load.{noStart, lastStart, textAfter, firstBad};
 use super::line;
 use super::line::Start;
+use super::pair;
 use super::scan;
 
 // The first bad line, 0 if none is, and then the start address.
@@ -44,14 +45,12 @@ pub fn first_bad(text: &[u8], len: u64) -> Verdict
             return Verdict { line: n, start };
         }
         let line = &text[at..stop];
-        let h = line::fields(line);
-        if line::is_good(line, h, upper, len) {
-            let kind = h.kind;
-            upper = line::upper_after(upper, line, kind);
-            start = line::start_after(start, line, kind);
+        if line::is_good(line, upper, len) {
+            upper = line::upper_after(upper, line);
+            start = line::start_after(start, line);
             at = r.next;
             n = n + 1;
-            if kind == 1 {
+            if pair::byte(line, 3) == 1 {
                 return Verdict {
                     line: later(text, at, n),
                     start,

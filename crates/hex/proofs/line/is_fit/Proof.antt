@@ -33,11 +33,9 @@ returns-4 c = rw (c .before .match .keys4) (c .fixed3 .ensures ∙ also _)
 
 returns-5 : tie.Need-returns-5
 unfolding isRead
-returns-5 c =
-    let s = c .before .args in
-    never (shaped (s .h .kind) (s .h .count) (s .h .offset)) _ (inside (s .len) (s .h .kind) (s .h .count) (s .address)) (missed (s .h .kind) kinds (c .match .rest))
+returns-5 c = let s = c .before .args in never (shaped (s .kind) (s .count) (s .offset)) _ _ (missed (s .kind) kinds (c .match .rest))
 
 pub is-fit-spec : {M : Type 1} → statement M
 is-fit-spec =
     tie.close
-    (tie.spec (λ c κs. search needs) (λ c κs. search needs) (λ c κs. search needs) (λ c κs. search needs) returns returns-2 returns-3 returns-4 returns-5)
+    (tie.spec (λ c. search needs) (λ c. search needs) (λ c κs. search needs) (λ c κs. search needs) (λ c κs. search needs) (λ c κs. search needs) returns returns-2 returns-3 returns-4 returns-5)

@@ -9,8 +9,7 @@ use borrow.Author.Needs.{needs}
 use Rattle.hex.specs.Lines.{linesOf}
 use Rattle.hex.specs.Load.{stored}
 use Rattle.hex.specs.Inner.{allGood}
-use Rattle.hex.specs.declared.line.Head.{Head}
-use Rattle.hex.proofs.Good.{well-formed, formed}
+use Rattle.hex.proofs.Good.{well-formed}
 use Rattle.hex.proofs.Turns.{stored-line, all-line}
 use Rattle.hex.proofs.Whole.{Whole, here, whole}
 use Rattle.hex.proofs.store.store.Statement.{statement}
@@ -39,23 +38,20 @@ module _ (c : tie.After-any Inv-loop μ-loop) where
       let s = a .before .before .before .args in
       whole (s .text .now) (a .loop .at) (c .before .loop-test .taken) (length (s .mem .now)) (a .loop .upper) (a .loop .inv .3) (c .any .result) (c .any .ensures .0)
 
-fields-requires : tie.Need-fields-requires Inv-loop μ-loop
-fields-requires c κs = let (x, n, _) = formed _ (well-formed _ _ _ (line (c .before) .fine)) in (x, omega arith)
-
 put-requires : tie.Need-put-requires Inv-loop μ-loop
 put-requires c κs =
-    let i = c .before .before .before in
+    let i = c .before .before in
     let a = i .before .before in
-    ((rw (a .loop .inv .1) (line i .fine), a .loop .inv .2), c .before .fields .ensures)
+    (rw (a .loop .inv .1) (line i .fine), a .loop .inv .2)
 
 upper-after-requires : tie.Need-upper-after-requires Inv-loop μ-loop
 upper-after-requires c κs =
-    let i = c .before .before .before .before .before .before in
-    (well-formed _ _ _ (line i .fine), ap (λ (h : Head). h .kind) (c .before .before .before .before .fields .ensures .0), i .before .before .loop .inv .2)
+    let i = c .before .before .before .before .before in
+    (well-formed _ _ _ (line i .fine), i .before .before .loop .inv .2)
 
 loop-again : tie.Need-loop-again Inv-loop μ-loop
 loop-again c =
-    let i = c .before .before .before .before .before .before .before .before in
+    let i = c .before .before .before .before .before .before .before in
     let p = c .before .before .before .before .put in
     let u = c .before .upper-after .ensures in
     let a = i .before .before in
@@ -93,11 +89,10 @@ store-spec =
     (λ c. search needs)
     (λ c. search needs)
     (λ c. line c .high)
-    fields-requires
     put-requires
     upper-after-requires
-    (λ c κs. (omega arith, line (c .before .before .before .before .before .before .before) .high))
-    (λ c. omega (arith, line (c .before .before .before .before .before .before .before .before) .cuts (c .end .result) (c .end .ensures)))
+    (λ c κs. (omega arith, line (c .before .before .before .before .before .before) .high))
+    (λ c. omega (arith, line (c .before .before .before .before .before .before .before) .cuts (c .end .result) (c .end .ensures)))
     loop-again
     (λ c. c .before .loop .inv .1)
     returns)

@@ -8,7 +8,6 @@ use borrow.Author.Needs.{needs}
 use Rattle.hex.specs.Lines.{linesOf}
 use Rattle.hex.specs.Load.{noStart, lastStart, firstBad}
 use Rattle.hex.specs.Inner.{sumOf, Cut}
-use Rattle.hex.specs.declared.line.Head.{Head}
 use Rattle.hex.proofs.Good.{paired, bad-sum, well-formed}
 use Rattle.hex.proofs.Lines.{some, parts}
 use Rattle.hex.proofs.Turns.{no-text, bad-line, good-line, end-line, start-line}
@@ -44,56 +43,54 @@ module _ (c : tie.Else1 Inv-loop μ-loop) where
 
 is-good-requires : tie.Need-is-good-requires Inv-loop μ-loop
 is-good-requires c κs =
-    let i = c .before .before in
+    let i = c .before in
     let a = i .before .before .before .before in
-    ((zero i, a .loop .inv .3, a .before .before .pre), c .fields .ensures)
+    (zero i, a .loop .inv .3, a .before .before .pre)
 
 -- it is good
 upper-after-requires : tie.Need-upper-after-requires Inv-loop μ-loop
 upper-after-requires c κs =
-    let a = c .before .before .before .before .before .before .before .before in
-    (well-formed (a .before .before .args .len) (a .loop .upper) _ (sym (c .before .is-good .ensures) ∙ c .if2 .taken), ap (λ (h : Head). h .kind) (c .before .before .fields .ensures .0), a .loop .inv .3)
-
-start-after-requires : tie.Need-start-after-requires Inv-loop μ-loop
-start-after-requires c κs = let (p, q, _) = upper-after-requires (c .before) κs in (p, q)
+    let a = c .before .before .before .before .before .before .before in
+    (well-formed (a .before .before .args .len) (a .loop .upper) _ (sym (c .before .is-good .ensures) ∙ c .if2 .taken), a .loop .inv .3)
 
 -- the end record
 returns-2 : tie.Need-returns-2 Inv-loop μ-loop
 unfolding lastStart
 returns-2 c =
-    let i = c .before .before .before .before in
-    let k = cut (i .before .before .before .before) in
-    let a = i .before .before .before .before .before .before .before .before in
+    let i = c .before .before .before .before .before in
+    let k = cut (i .before .before .before) in
+    let a = i .before .before .before .before .before .before .before in
     let s = a .before .before .args in
-    let more = linesOf (drop (i .before .before .before .before .before .before .read .result .next) (s .text .now)) in
-    let e = sym (ap (λ (h : Head). h .kind) (i .before .before .fields .ensures .0)) ∙ c .before .if3 .taken in (
+    let more = linesOf (drop (i .before .before .before .before .before .read .result .next) (s .text .now)) in
+    let e = sym (c .before .before .byte .ensures .0) ∙ c .before .if3 .taken in (
       c .later .ensures ∙ sym (a .loop .inv .4 ∙ end-line (s .len) (a .loop .upper) (k .lines) (a .loop .n) (sym (i .before .is-good .ensures) ∙ i .if2 .taken) e),
       λ z.
           let f = no-text (a .loop .n + 1) more (omega arith) (sym (c .later .ensures) ∙ z) in
-          c .before .before .start-after .ensures ∙ sym (a .loop .inv .5 ∙ start-line (s .len) (a .loop .upper) (k .lines) (a .loop .start) ∙ ap (lastStart _) f),
+          c .before .before .before .start-after .ensures ∙ sym (a .loop .inv .5 ∙ start-line (s .len) (a .loop .upper) (k .lines) (a .loop .start) ∙ ap (lastStart _) f),
     )
 
 -- a good line before it
 loop-again : tie.Need-loop-again Inv-loop μ-loop
 loop-again c =
-    let i = c .before .before .before in
-    let k = cut (i .before .before .before .before) in
-    let a = i .before .before .before .before .before .before .before .before in
+    let i = c .before .before .before .before in
+    let k = cut (i .before .before .before) in
+    let a = i .before .before .before .before .before .before .before in
     let s = a .before .before .args in
-    let u = c .before .before .upper-after .ensures in
-    let e = ap (λ (h : Head). h .kind) (i .before .before .fields .ensures .0) in (
+    let u = c .before .before .before .upper-after .ensures in (
       k .last,
       omega arith,
       omega (arith, k .on),
       u .1,
-      a .loop .inv .4 ∙ good-line (s .len) (a .loop .upper) (k .lines) (a .loop .n) (sym (i .before .is-good .ensures) ∙ i .if2 .taken) (λ z. c .if3 .left (e ∙ z)) ∙ rw (← u .0) refl,
-      a .loop .inv .5 ∙ start-line (s .len) (a .loop .upper) (k .lines) (a .loop .start) ∙ rw (← c .before .start-after .ensures) refl,
+      a .loop .inv .4
+          ∙ good-line (s .len) (a .loop .upper) (k .lines) (a .loop .n) (sym (i .before .is-good .ensures) ∙ i .if2 .taken) (λ z. c .if3 .left (c .before .byte .ensures .0 ∙ z))
+          ∙ rw (← u .0) refl,
+      a .loop .inv .5 ∙ start-line (s .len) (a .loop .upper) (k .lines) (a .loop .start) ∙ rw (← c .before .before .start-after .ensures) refl,
     )
 
 -- it is not
 returns-3 : tie.Need-returns-3 Inv-loop μ-loop
 returns-3 c =
-    let i = c .before .before .before .before in
+    let i = c .before .before .before in
     let a = i .before .before .before .before in
     let s = a .before .before .args in (
       sym (a .loop .inv .4 ∙ bad-line (s .len) (a .loop .upper) (cut i .lines) (a .loop .n) (sym (c .before .is-good .ensures) ∙ c .if2 .left)),
@@ -121,11 +118,11 @@ first-bad-spec =
     (λ c. cut c .low)
     (λ c. cut c .low)
     (λ c. cut c .high)
-    (λ c κs. paired _ (zero (c .before)))
     is-good-requires
     upper-after-requires
-    start-after-requires
+    (λ c κs. upper-after-requires (c .before) κs .0)
     (λ c. search needs)
+    (λ c κs. let (x, n) = paired _ (zero (c .before .before .before .before .before)) in (x, omega arith))
     (λ c κs. search needs)
     returns-2
     (λ c. omega (arith, cut (c .before .before .before .before .before .before .before)))
