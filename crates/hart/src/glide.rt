@@ -2,8 +2,9 @@
 // enough for the compiler to keep pc and the count in registers.
 use address::control;
 use effect::Setting;
-use meaning::Fetched;
 use meaning::Source;
+use place::window;
+use place::window::Window;
 use quick::Tried;
 use quick::opcodes;
 use word::sum;
@@ -12,7 +13,8 @@ ghost use mathlib.Core.Path.{_≡_};
 ghost use Prim.Native.Nat.{_^_, _≤_};
 ghost use lib.Dec.{eqb};
 ghost use lib.ListN.{length};
-ghost use Rattle.address.specs.Control.{bareOf, flatOf};
+ghost use Rattle.address.specs.Control.{flatOf};
+ghost use Rattle.place.specs.Window.{Shows};
 ghost use Rattle.meaning.specs.declared.Source.the-variants.{Fetch};
 ghost use Rattle.hart.specs.Glide.{saidOf, Straight, Fetches, Turned, Glides};
 ghost use Rattle.hart.specs.Words.{AreWords};
@@ -50,26 +52,58 @@ fn instruction(
     t
 }
 
-// The step at pc; `bare` and `flat` say beforehand what the regime makes of fetches and of loads and stores.
+// The step at pc, where the window shows its word; `flat` says beforehand what the regime makes of loads and stores.
 fn turn(
     x: &mut [u64; 32],
     rest: &mut [u64; 20],
     pc: u64,
-    bare: bool,
+    v: Window,
     flat: bool,
     s: Setting,
     mem: &mut [u8],
     map: &[u64],
 ) -> Tried
-    requires { ⌜ (length (now mem) ≤ 2 ^ 20) × Straight (now rest) × (s ≡ saidOf (now rest)) × (bare ≡ bareOf (s .control)) × (flat ≡ flatOf (s .control)) ⌝ }
+    requires { ⌜ (length (now mem) ≤ 2 ^ 20) × Straight (now rest) × (s ≡ saidOf (now rest)) × (flat ≡ flatOf (s .control)) × Shows v (s .control) (now map) (length (now mem)) ⌝ }
     ensures { λ r. ⌜ Turned (r .done) pc (now (x .entry)) (now (rest .entry)) (now (mem .entry)) (now (map .entry)) (r .pc) (now (x .exit)) (now (rest .exit)) (now (mem .exit)) ⌝ }
 {
-    match opcodes::fetch(bare, s.control, pc, mem, map) {
-        Fetched::Word(w) => instruction(w, x, rest, pc, flat, s, mem, map),
-        Fetched::Fault(_, _) => Tried { done: false, pc },
+    let f = opcodes::fetch(v, pc, mem);
+    if f.seen {
+        return instruction(f.word, x, rest, pc, flat, s, mem, map);
     }
+    Tried { done: false, pc }
 }
 
+// As many steps as the quick way takes in a window.
+fn stretch(
+    x: &mut [u64; 32],
+    rest: &mut [u64; 20],
+    start: u64,
+    v: Window,
+    flat: bool,
+    s: Setting,
+    mem: &mut [u8],
+    map: &[u64],
+    budget: u64,
+) -> Glided
+    requires { ⌜ (length (now mem) ≤ 2 ^ 20) × Straight (now rest) × (s ≡ saidOf (now rest)) × (flat ≡ flatOf (s .control)) × Shows v (s .control) (now map) (length (now mem)) ⌝ }
+    ensures steps { λ r. ⌜ Glides Fetch budget start (now (x .entry)) (now (rest .entry)) (now (mem .entry)) (now (map .entry)) r (now (x .exit)) (now (rest .exit)) (now (mem .exit)) ⌝ }
+    ensures words { λ _. ⌜ Straight (now (rest .exit)) × (s ≡ saidOf (now (rest .exit))) ⌝ }
+{
+    let mut pc = start;
+    let mut left = budget;
+    while 0 < left {
+        let t = turn(x, rest, pc, v, flat, s, mem, map);
+        if t.done {
+            pc = t.pc;
+            left = left - 1;
+            continue;
+        }
+        return Glided { pc, left };
+    }
+    Glided { pc, left }
+}
+
+// From window to window. A step that its window covers and that was not taken has to go the whole way.
 fn steps(
     x: &mut [u64; 32],
     rest: &mut [u64; 20],
@@ -83,19 +117,21 @@ fn steps(
     ensures steps { λ r. ⌜ Glides Fetch budget start (now (x .entry)) (now (rest .entry)) (now (mem .entry)) (now (map .entry)) r (now (x .exit)) (now (rest .exit)) (now (mem .exit)) ⌝ }
     ensures words { λ _. ⌜ Straight (now (rest .exit)) × (s ≡ saidOf (now (rest .exit))) ⌝ }
 {
-    let c = s.control;
-    let bare = control::bare(c);
-    let flat = control::flat(c);
+    let flat = control::flat(s.control);
     let mut pc = start;
     let mut left = budget;
     while 0 < left {
-        let t = turn(x, rest, pc, bare, flat, s, mem, map);
-        if t.done {
-            pc = t.pc;
-            left = left - 1;
+        let v = window::around(s.control, pc, map, mem.len() as u64);
+        let g = stretch(x, rest, pc, v, flat, s, mem, map, left);
+        if g.left < left {
+            pc = g.pc;
+            left = g.left;
+            if window::covers(v, pc) {
+                return g;
+            }
             continue;
         }
-        return Glided { pc, left };
+        return g;
     }
     Glided { pc, left }
 }

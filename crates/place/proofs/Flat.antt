@@ -3,10 +3,12 @@
 use mathlib.Core.Path.{_≡_, refl, sym}
 use mathlib.Core.Bool.{Bool, true, false, _||_, not}
 use mathlib.Core.List.{List}
-use Prim.Native.Nat.{ℕ, _^_, _<_}
+use Prim.Native.Nat.{ℕ, _+_, _-_, _^_, _<_, _≤_}
+use native.Mathlib.Omega.{arith}
 use lib.Dec.{eqb}
 use borrow.Author.Tests.{eqb-true}
 use Rattle.word.proofs.Bools.{both}
+use Rattle.isa.specs.Size.{sizeOf}
 use Rattle.isa.specs.declared.Width.the-variants.{Word}
 use Rattle.isa.specs.declared.Width.{Width}
 use Rattle.page.specs.Kinds.{isFetch, isShadow}
@@ -19,8 +21,10 @@ use Rattle.address.specs.Cause.{misalignedOf}
 use Rattle.address.specs.Control.{modeOf, pmmOf, pagedOf, unmaskedOf, bareOf, flatOf}
 use Rattle.address.specs.Mask.{pmlenOf, transformedOf}
 use Rattle.address.specs.declared.control.Control.{Control}
-use Rattle.place.specs.Place.{insideOf, plainPlaceOf, reachedOf, placeOf, flatPlaceOf}
-use Rattle.place.specs.declared.Place.the-variants.{Fault}
+use Rattle.place.specs.Place.{base, Within, insideOf, plainPlaceOf, reachedOf, placeOf, flatPlaceOf}
+use Rattle.place.specs.declared.Physical.{Physical}
+use Rattle.place.specs.declared.Place.the-variants.{At, Fault}
+use Rattle.place.proofs.Reach.{behind, inside-at}
 
 -- the two steps in their order
 module _ (k : Kind) (w : Width) (a len : ℕ) where
@@ -31,6 +35,15 @@ module _ (k : Kind) (w : Width) (a len : ℕ) where
   pub flat-misaligned : alignedOf w a ≡ false → Fault (misalignedOf k) a ≡ flatPlaceOf k w a len
   unfolding flatPlaceOf
   flat-misaligned e = rw e
+
+-- a place that they give lies in memory
+module _ (k : Kind) (w : Width) (a len : ℕ) (q : Physical) (at : flatPlaceOf k w a len ≡ At q) where
+  pub flat-within : Within len w (q .0)
+  unfolding flatPlaceOf
+  flat-within = inside-at k w len q a a (behind (alignedOf w a) (insideOf k w len a a) (misalignedOf k) a q at .1) .1
+
+  pub flat-index : q .0 - base + sizeOf w ≤ len
+  flat-index = omega (arith, flat-within .0, flat-within .1)
 
 off : (b : Bool) → not b ≡ true → b ≡ false
 off true e = cc

@@ -40,7 +40,7 @@ use Rattle.place.specs.declared.Place.{Place}
 never : {A : Type 0} (c t : ℕ) (q : Physical) → Fault c t ≡ At q → A
 never c t q e = absurd (let z : _≡_ {A = ℕ} 0 1 = cc in omega arith)
 
-behind : (b : Bool) (rest : Place) (c t : ℕ) (q : Physical) → pick b rest (Fault c t) ≡ At q → (b ≡ true) × (rest ≡ At q)
+pub behind : (b : Bool) (rest : Place) (c t : ℕ) (q : Physical) → pick b rest (Fault c t) ≡ At q → (b ≡ true) × (rest ≡ At q)
 behind true rest c t q e = (refl, e)
 behind false rest c t q e = never c t q e
 
@@ -60,7 +60,7 @@ pub record Plain (k : Kind) (w : Width) (t len : ℕ) (q : Physical) : Type 0 wh
   pub within : Within len w (q .0)
 
 module _ (k : Kind) (w : Width) (len : ℕ) (q : Physical) where
-  inside-at : (p t : ℕ) → insideOf k w len p t ≡ At q → (q .0 ≡ p) × Within len w (q .0)
+  pub inside-at : (p t : ℕ) → insideOf k w len p t ≡ At q → (q .0 ≡ p) × Within len w (q .0)
   unfolding insideOf withinOf
   inside-at p t e =
       let (b, f) = behind (withinOf len p (sizeOf w)) (At (record { 0 = p })) (accessFaultOf k) t q e in
@@ -84,7 +84,7 @@ module _ (k : Kind) (w : Width) (len : ℕ) (q : Physical) where
       let (v, p, i) = settle-at (judgeOf g k (leafOf l)) (physicalOf l t) t e in
       record { leaf = l; canonical = c; entry = s; granted = v; frame = p; within = i }
 
-  paged-at : (g : Regime) (t : ℕ) (map : List ℕ) → pagedPlaceOf g k w t map len ≡ At q → Paged g k w t map len q
+  pub paged-at : (g : Regime) (t : ℕ) (map : List ℕ) → pagedPlaceOf g k w t map len ≡ At q → Paged g k w t map len q
   unfolding pagedPlaceOf
   paged-at g t map e =
       let (c, f) = behind (canonicalOf t) (throughOf (lookupOf map (pageNumber t)) g k w len t) (pageFaultOf k) t q e in

@@ -8,6 +8,8 @@ ghost use Rattle.place.specs.Place.{base};
 
 // The nine steps in their order.
 pub mod steps;
+// A stretch of fetches.
+pub mod window;
 
 // The physical address of memory's first byte.
 const BASE: u64 = 0x8000_0000;

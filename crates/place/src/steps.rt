@@ -24,7 +24,7 @@ ghost use Rattle.page.specs.declared.Kind.the-variants.{Fetch};
 ghost use Rattle.page.specs.declared.map.Found.the-variants.{Absent};
 ghost use Rattle.page.specs.Kinds.{isFetch, isShadow};
 ghost use Rattle.page.specs.Map.{lookupOf};
-ghost use Rattle.address.specs.Control.{bareOf, flatOf};
+ghost use Rattle.address.specs.Control.{flatOf};
 ghost use Rattle.word.specs.Choice.{pick};
 ghost use Rattle.place.specs.Place.{withinOf, insideOf, canonicalOf, pageNumber, physicalOf, settleOf, throughOf, pagedPlaceOf, plainPlaceOf, placeOf, flatPlaceOf};
 
@@ -170,7 +170,7 @@ pub fn translate(c: Control, k: Kind, w: Width, a: Virtual, map: &[u64], len: u6
 }
 
 // Steps 3 and 9 of an access that is neither masked nor translated.
-fn plainly(k: Kind, w: Width, a: Virtual, len: u64) -> Place
+pub fn plainly(k: Kind, w: Width, a: Virtual, len: u64) -> Place
     requires { ⌜ len ≤ 2 ^ 20 ⌝ }
     ensures { λ r. ⌜ r ≡ flatPlaceOf k w (a .0) len ⌝ }
 {
@@ -178,17 +178,6 @@ fn plainly(k: Kind, w: Width, a: Virtual, len: u64) -> Place
         return inside(k, w, len, Physical(a.0), a);
     }
     Place::Fault(cause::misaligned(k), a.0)
-}
-
-// The same place as `fetch` gives; `bare` is known beforehand.
-pub fn quick_fetch(bare: bool, c: Control, a: Virtual, map: &[u64], len: u64) -> Place
-    requires { ⌜ (len ≤ 2 ^ 20) × (bare ≡ bareOf c) ⌝ }
-    ensures { λ r. ⌜ r ≡ placeOf c Fetch Word (a .0) (now (map .entry)) len ⌝ }
-{
-    if bare {
-        return plainly(Kind::Fetch, Width::Word, a, len);
-    }
-    fetch(c, a, map, len)
 }
 
 // The same place as `translate` gives a load or a store; `flat` is known beforehand.

@@ -1,6 +1,6 @@
--- What `value` tells of a word: a row's value, none, or what the next table tells; and the register that is written by it.
+-- The register that is written by what `value` tells of a word.
 -- Assumes nothing.
-use mathlib.Core.Bool.{Bool, true, false}
+use mathlib.Core.Bool.{Bool, true}
 use mathlib.Core.List.{List}
 use mathlib.Core.Path.{_≡_, sym, ap, _∙_}
 use Prim.Native.Nat.{ℕ}
@@ -9,25 +9,11 @@ use Rattle.isa.specs.declared.Instruction.{Instruction}
 use Rattle.effect.specs.Register.{regOf, putOf}
 use Rattle.effect.specs.declared.Effect.the-variants.{Write}
 use Rattle.meaning.specs.Instruction.{nextOf, executeOf}
-use Rattle.quick.specs.Quick.{Computes, Writes}
+use Rattle.quick.specs.Quick.{Computes}
+use Rattle.value.specs.Value.{Writes}
 use Rattle.quick.specs.declared.Tried.{Tried}
-use Rattle.quick.specs.declared.value.Value.{Value}
+use Rattle.value.specs.declared.Value.{Value}
 use Rattle.quick.proofs.Ways.{wrote-does}
-
--- a row of the table: its value
-pub row-told : (t : Value) (v : ℕ) → t ≡ record { known = true; value = v } → (i : Instruction) (f : Fields) (a b : ℕ)
-    → Writes true i f a b v → Writes (t .known) i f a b (t .value)
-row-told t v h i f a b w = rw h w
-
--- no row
-pub none-told : (t : Value) → t ≡ record { known = false; value = 0 } → (i : Instruction) (f : Fields) (a b : ℕ)
-    → Writes (t .known) i f a b (t .value)
-none-told t h i f a b = rw h tt
-
--- the next table, where this one says what it does
-pub next-told : (t : Value) (i j : Instruction) (f : Fields) (a b : ℕ) → j ≡ i → Writes (t .known) j f a b (t .value)
-    → Writes (t .known) i f a b (t .value)
-next-told t i j f a b h w = rw (← h) w
 
 -- known, it is written
 known-writes : (k : Bool) (i : Instruction) (f : Fields) (a b v : ℕ) → k ≡ true → Writes k i f a b v → Writes true i f a b v

@@ -8,14 +8,19 @@ use mathlib.Core.Path.{_≡_}
 use Prim.Native.Nat.{ℕ}
 use lib.ListN.{set}
 use Rattle.word.specs.declared.field.Fields.{Fields}
+use Rattle.word.specs.Sum.{sumOf}
 use Rattle.isa.specs.declared.Instruction.{Instruction}
+use Rattle.address.specs.Control.{flatOf}
 use Rattle.transfer.specs.Commit.{memoryOf}
 use Rattle.effect.specs.Register.{regOf, putOf}
 use Rattle.effect.specs.declared.Setting.{Setting}
 use Rattle.effect.specs.declared.Effect.{Effect}
 use Rattle.effect.specs.declared.Effect.the-variants.{Write, Jump, Pad, Store, Push, Pop, Swap, Whole, Trap}
 use Rattle.meaning.specs.Instruction.{nextOf, executeOf}
+use Rattle.meaning.specs.declared.Fetched.{Fetched}
+use Rattle.meaning.specs.declared.Fetched.the-variants as fetched
 use Rattle.quick.specs.declared.Tried.{Tried}
+use Rattle.quick.specs.declared.opcodes.Seen.{Seen}
 
 -- an effect was applied: pc', registers, words and memory are what it says. It never is a trap, nor a jump to a landing pad, nor
 -- one that changes more than these
@@ -44,9 +49,13 @@ Computes i w x pc pad t x' =
     (ssp : ℕ) (s : Setting) (rest m map : List ℕ) → s .pad ≡ pad
     → Does (t .done) (executeOf i w x pc ssp s m map) x rest m (t .pc) x' rest m
 
--- what an instruction with these fields writes, where its two registers hold a and b: if it is known, rd takes v and nothing else happens
-abbrev pub Writes : (known : Bool) → Instruction → Fields → (a b v : ℕ) → Type 0
-Writes true i f a b v =
-    (w pc ssp : ℕ) (x : List ℕ) (s : Setting) (m map : List ℕ) → regOf x (f .rs1) ≡ a → regOf x (f .rs2) ≡ b
+-- what a load with these fields and this offset puts into its register, from address a and memory m, where loads are neither masked nor translated
+abbrev pub Loads : (known : Bool) → Instruction → Fields → (off a : ℕ) → (m : List ℕ) → (v : ℕ) → Type 0
+Loads true i f off a m v =
+    (w pc ssp : ℕ) (x map : List ℕ) (s : Setting) → flatOf (s .control) ≡ true → a ≡ sumOf (regOf x (f .rs1)) off
     → executeOf i w x pc ssp s m map ≡ Write (f .rd) v (nextOf pc)
-Writes false i f a b v = Unit {0}
+Loads false i f off a m v = Unit {0}
+
+-- a word that was seen is the one that a fetch gives
+abbrev pub Sees : Seen → Fetched → Type 0
+Sees r f = r .seen ≡ true → f ≡ fetched.Word (r .word)

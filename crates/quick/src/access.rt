@@ -15,9 +15,12 @@ use isa::Width;
 use page::Kind;
 use place::Place;
 use place::steps;
+use value::Value;
 use word::field;
+use word::field::Fields;
 use word::immediate;
 use word::sum;
+ghost use mathlib.Core.Bool.{true};
 ghost use mathlib.Core.List.{List};
 ghost use mathlib.Core.Path.{_≡_};
 ghost use Prim.Native.Nat.{ℕ, _^_, _≤_};
@@ -25,6 +28,7 @@ ghost use lib.ListN.{length, getD};
 ghost use Rattle.word.specs.Field.{fieldsOf};
 ghost use Rattle.word.specs.Immediate.{immI, immS};
 ghost use Rattle.isa.specs.declared.Access.the-variants as access;
+ghost use Rattle.isa.specs.declared.Instruction.the-variants.{Memory};
 ghost use Rattle.isa.specs.declared.Width.the-variants.{Double};
 ghost use Rattle.base.specs.Base.{loadOf, storeOf};
 ghost use Rattle.page.specs.declared.Kind.the-variants as kind;
@@ -34,7 +38,8 @@ ghost use Rattle.decoder.specs.System.{systemOf};
 ghost use Rattle.place.specs.Place.{placeOf};
 ghost use Rattle.transfer.specs.Access.{atOf};
 ghost use Rattle.meaning.specs.Instruction.{nextOf, executeOf};
-ghost use Rattle.quick.specs.Quick.{Does};
+ghost use Rattle.effect.specs.declared.Setting as setting;
+ghost use Rattle.quick.specs.Quick.{Does, Loads};
 
 // A load from address a.
 fn load_at(
@@ -61,6 +66,48 @@ fn load_at(
     }
 }
 
+// What a load from address a puts into its register, where loads are neither masked nor translated.
+fn flat_load(n: Width, sign: bool, a: u64, mem: &[u8]) -> Value
+    requires { ⌜ length (now mem) ≤ 2 ^ 20 ⌝ }
+    ensures { λ r. ⌜ ((f : Fields) (off : ℕ) → Loads (r .known) (Memory (access.Load n sign) (f .rd) (f .rs1) 0 off) f off a (now (mem .entry)) (r .value)) ⌝ }
+{
+    match steps::plainly(Kind::Load, n, Virtual(a), mem.len() as u64) {
+        Place::At(q) => value::told(memory::extend(n, sign, memory::load(mem, q.index(), n))),
+        Place::Fault(_, _) => value::none(),
+    }
+}
+
+// The rows of LOAD. Each has its width written out: so the compiler asks once what a word's width is, and not at each use (docs/SPEED.md).
+fn flat_row(f: Fields, a: u64, mem: &[u8]) -> Value
+    requires { ⌜ length (now mem) ≤ 2 ^ 20 ⌝ }
+    ensures { λ r. ⌜ ((off : ℕ) → Loads (r .known) (loadOf f off) f off a (now (mem .entry)) (r .value)) ⌝ }
+{
+    let funct3 = f.funct3;
+    match funct3 {
+        0b000 => flat_load(Width::Byte, true, a, mem),
+        0b001 => flat_load(Width::Half, true, a, mem),
+        0b010 => flat_load(Width::Word, true, a, mem),
+        0b011 => flat_load(Width::Double, true, a, mem),
+        0b100 => flat_load(Width::Byte, false, a, mem),
+        0b101 => flat_load(Width::Half, false, a, mem),
+        0b110 => flat_load(Width::Word, false, a, mem),
+        _ => value::none(),
+    }
+}
+
+// LOAD, where loads are neither masked nor translated.
+fn load_flat(w: u32, x: &mut [u64; 32], pc: u64, mem: &[u8]) -> Tried
+    requires { ⌜ length (now mem) ≤ 2 ^ 20 ⌝ }
+    ensures { λ r. ⌜ ((ssp : ℕ) (s : setting.Setting) (rest map : List ℕ) → flatOf (s .control) ≡ true → Does (r .done) (executeOf (loadOf (fieldsOf w) (immI w)) w (now (x .entry)) pc ssp s (now (mem .entry)) map) (now (x .entry)) rest (now (mem .entry)) (r .pc) (now (x .exit)) rest (now (mem .entry))) ⌝ }
+{
+    let f = field::split(w);
+    let v = flat_row(f, sum::sum(reg(x, f.rs1), immediate::imm_i(w)), mem);
+    if v.known {
+        return wrote(x, f.rd, v.value, sum::sum(pc, 4));
+    }
+    undone(pc)
+}
+
 pub fn load(
     w: u32,
     x: &mut [u64; 32],
@@ -73,12 +120,14 @@ pub fn load(
     requires { ⌜ (length (now mem) ≤ 2 ^ 20) × (flat ≡ flatOf (s .control)) ⌝ }
     ensures { λ r. ⌜ ((ssp : ℕ) (rest : List ℕ) → Does (r .done) (executeOf (loadOf (fieldsOf w) (immI w)) w (now (x .entry)) pc ssp s (now (mem .entry)) (now (map .entry))) (now (x .entry)) rest (now (mem .entry)) (r .pc) (now (x .exit)) rest (now (mem .entry))) ⌝ }
 {
-    let c = s.control;
+    if flat {
+        return load_flat(w, x, pc, mem);
+    }
     match base::load(field::split(w), immediate::imm_i(w)) {
         Instruction::Memory(k, rd, rs1, _, off) => match k {
             Access::Load(n, sign) => {
                 let a = sum::sum(reg(x, rs1), off);
-                load_at(n, sign, rd, a, x, pc, flat, c, mem, map)
+                load_at(n, sign, rd, a, x, pc, flat, s.control, mem, map)
             }
             _ => undone(pc),
         },

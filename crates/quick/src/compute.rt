@@ -3,7 +3,6 @@
 //
 // A branch writes 0 to register 0, as its effect says: so what is left of the registers is the effect's, whatever they held.
 use super::Tried;
-use super::value;
 use effect::compute;
 use effect::jump;
 use effect::register;

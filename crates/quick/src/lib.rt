@@ -6,8 +6,6 @@
 
 // What touches the registers and pc alone: RV64I, M, and what is taken from Zbb.
 mod compute;
-// What computing instructions write.
-mod value;
 // Loads, stores, push and pop-check.
 mod access;
 // The fetch, and the major opcodes.

@@ -2,30 +2,46 @@
 use super::Tried;
 use super::access;
 use super::compute;
-use address::Virtual;
-use address::control::Control;
 use effect::Setting;
-use meaning::Fetched;
-use place::Place;
-use place::steps;
+use place::window::Window;
+use word::sum;
+ghost use mathlib.Core.List.{List};
 ghost use mathlib.Core.Path.{_≡_};
-ghost use Prim.Native.Nat.{_^_, _≤_};
+ghost use Prim.Native.Nat.{ℕ, _+_, _-_, _^_, _≤_};
 ghost use lib.ListN.{length, getD};
-ghost use Rattle.address.specs.Control.{bareOf, flatOf};
+ghost use Rattle.address.specs.Control.{flatOf};
+ghost use Rattle.address.specs.declared.control.Control.{Control};
 ghost use Rattle.decoder.specs.Decode.{decodeOf};
+ghost use Rattle.place.specs.Window.{Shows};
 ghost use Rattle.meaning.specs.Instruction.{executeOf};
 ghost use Rattle.meaning.specs.Plan.{fetchedOf};
 ghost use Rattle.meaning.specs.declared.Source.the-variants.{Fetch};
-ghost use Rattle.quick.specs.Quick.{Does};
+ghost use Rattle.quick.specs.Quick.{Does, Sees};
 
-// The word at pc; `bare` says beforehand that fetches are not translated.
-pub fn fetch(bare: bool, c: Control, pc: u64, mem: &[u8], map: &[u64]) -> Fetched
-    requires { ⌜ (length (now mem) ≤ 2 ^ 20) × (bare ≡ bareOf c) ⌝ }
-    ensures { λ r. ⌜ r ≡ fetchedOf Fetch c pc (now (mem .entry)) (now (map .entry)) ⌝ }
+// The word at pc, if the window covers it.
+pub struct Seen {
+    pub seen: bool,
+    pub word: u32,
+}
+
+// The word at pc by its distance from the window's first address. Outside the window, or at an address that is not aligned, none is seen: the
+// whole way fetches there.
+pub fn fetch(v: Window, pc: u64, mem: &[u8]) -> Seen
+    requires { ⌜ (length (now mem) ≤ 2 ^ 20) × (v .at + v .span ≤ length (now mem) - 3) ⌝ }
+    ensures { λ r. ⌜ ((c : Control) (map : List ℕ) → Shows v c map (length (now (mem .entry))) → Sees r (fetchedOf Fetch c pc (now (mem .entry)) map)) ⌝ }
 {
-    match steps::quick_fetch(bare, c, Virtual(pc), map, mem.len() as u64) {
-        Place::At(q) => Fetched::Word(memory::word(mem, q.index())),
-        Place::Fault(cause, tval) => Fetched::Fault(cause, tval),
+    let d = sum::difference(pc, v.low);
+    if pc % 4 == 0 {
+        if d < v.span {
+            return Seen {
+                seen: true,
+                word: memory::word(mem, (v.at + d) as usize),
+            };
+        }
+    }
+    Seen {
+        seen: false,
+        word: 0,
     }
 }
 

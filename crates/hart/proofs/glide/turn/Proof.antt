@@ -1,31 +1,27 @@
--- `hart::glide::turn` meets its contract: the fetch, and then the instruction. Assumes nothing.
-use mathlib.Core.Path.{sym, _∙_}
+-- `hart::glide::turn` meets its contract: the word that the window shows, and then its instruction. Assumes nothing.
+use mathlib.Core.Path.{refl}
 use borrow.Author.Needs.{needs}
 use Rattle.hart.proofs.glide.turn.Statement.{statement}
 use Rattle.hart.proofs.glide.turn.Tie as tie
 
+fetch-requires : tie.Need-fetch-requires
+fetch-requires c κs = let s = c .before .before .before in (s .pre .0, s .pre .4 .fits)
+
 instruction-requires : tie.Need-instruction-requires
 instruction-requires c κs =
-    let f = c .before .before .before .before .before .before in
-    let st = f .before .before .before .before in
-    let e = sym (f .fetch .ensures) ∙ c .before .before .before .before .w .given .1 in
-    (st .pre .0, st .pre .1, st .pre .2, st .pre .4, rw (st .pre .2) at e)
-
-returns : tie.Need-returns
-returns c = search needs
-
-returns-2 : tie.Need-returns-2
-returns-2 c = search needs
+    let t = c .before .before .before in
+    let f = t .before in
+    let s = f .before .before .before .before in
+    let w = f .fetch .ensures (s .args .s .control) (s .args .map .now) (s .pre .4) (t .if1 .taken) in
+    (s .pre .0, s .pre .1, s .pre .2, s .pre .3, rw (s .pre .2) at w)
 
 pub turn-spec : {M : Type 1} → statement M
 turn-spec =
     tie.close
     (tie.spec
-    (λ c κs. search needs)
-    (λ c. search needs)
+    fetch-requires
     instruction-requires
     (λ c. search needs)
+    (λ c. c .before .before .instruction .ensures)
     (λ c. search needs)
-    returns
-    (λ c. search needs)
-    returns-2)
+    (λ c. (refl, refl, refl)))

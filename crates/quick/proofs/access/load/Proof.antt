@@ -1,4 +1,5 @@
 -- `quick::access::load` meets its contract: the access of a load. Assumes nothing.
+use mathlib.Core.Path.{sym, _∙_}
 use Rattle.base.specs.Base.{loadOf}
 use Rattle.transfer.specs.Access.{accessOf, passedOf}
 use Rattle.meaning.specs.Instruction.{executeOf}
@@ -9,8 +10,14 @@ use Rattle.quick.proofs.access.load.Statement.{statement}
 use Rattle.quick.proofs.access.load.Tie as tie
 
 returns : tie.Need-returns
-unfolding executeOf accessOf passedOf
 returns c =
+    let t = c .before .before in
+    let s = t .before .before .before in
+    λ ssp rest. c .load-flat .ensures ssp (s .args .s) rest (s .args .map .now) (sym (s .pre .1) ∙ t .if1 .taken)
+
+returns-2 : tie.Need-returns-2
+unfolding executeOf accessOf passedOf
+returns-2 c =
     let a = c .before .before in
     let l = a .before .before .before .before in
     let k = l .before .before .before in
@@ -23,15 +30,17 @@ load-spec =
     tie.close
     (tie.spec
     (λ c κs. search needs)
-    (λ c κs. search needs)
-    (λ c κs. search needs)
-    (λ c. search needs)
-    (λ c. search needs)
-    (λ c κs. search needs)
-    (λ c κs. search needs)
-    (λ c κs. search needs)
-    (λ c κs. search needs)
-    (λ c κs. search needs)
     returns
+    (λ c κs. search needs)
+    (λ c κs. search needs)
+    (λ c κs. search needs)
+    (λ c. search needs)
+    (λ c. search needs)
+    (λ c κs. search needs)
+    (λ c κs. search needs)
+    (λ c κs. search needs)
+    (λ c κs. search needs)
+    (λ c κs. search needs)
+    returns-2
     (λ c. λ ssp rest. undone-does _ _ (c .undone .ensures) _ _ rest _)
     (λ c. λ ssp rest. undone-does _ _ (c .undone2 .ensures) _ _ rest _))

@@ -1,21 +1,17 @@
--- `quick::opcodes::fetch` meets its contract: by the place. Assumes nothing.
-use mathlib.Core.Path.{sym, _∙_}
-use Rattle.place.proofs.Reach.{place-within, place-index}
-use Rattle.meaning.specs.Plan.{fetchedOf}
-use Rattle.quick.proofs.Parts.{word-at, fault-at}
+-- `quick::opcodes::fetch` meets its contract: what the window shows. Assumes nothing.
+use native.Mathlib.Omega.{arith}
+use Rattle.quick.proofs.Seeing.{seen-word}
 use borrow.Author.Needs.{needs}
 use Rattle.quick.proofs.opcodes.fetch.Statement.{statement}
 use Rattle.quick.proofs.opcodes.fetch.Tie as tie
 
 returns : tie.Need-returns
-unfolding fetchedOf
 returns c =
-    word-at _ _ _ _ (sym (c .before .before .before .before .before .quick-fetch .ensures) ∙ c .before .before .before .q .given .1) (rw (c .before .index .ensures) at (c .word .ensures))
-
-returns-2 : tie.Need-returns-2
-unfolding fetchedOf
-returns-2 c =
-    fault-at _ _ _ _ (sym (c .before .before .before .quick-fetch .ensures) ∙ c .before .cause .given .1)
+    let t = c .before .before in
+    let u = t .before .before in
+    let d = u .before in
+    let a = d .before .before .args in
+    λ k map shows seen. seen-word (a .v) (a .pc) _ _ (d .difference .ensures) (t .if2 .taken) (u .if1 .taken) (omega arith) k map (a .mem .now) shows (c .word .ensures)
 
 pub fetch-spec : {M : Type 1} → statement M
 fetch-spec =
@@ -23,8 +19,7 @@ fetch-spec =
     (tie.spec
     (λ c κs. search needs)
     (λ c. search needs)
-    (λ c κs. place-within _ _ _ _ _ _ _ (sym (c .before .before .before .quick-fetch .ensures) ∙ c .before .q .given .1) .0)
-    (λ c κs. rw (c .index .ensures) (place-index _ _ _ _ _ _ _ (sym (c .before .before .before .before .quick-fetch .ensures) ∙ c .before .before .q .given .1)))
-    (λ c. search needs)
+    (λ c κs. search needs)
     returns
-    returns-2)
+    (λ c. λ k map shows seen. cc)
+    (λ c. λ k map shows seen. cc))

@@ -1,0 +1,31 @@
+-- `value::count_words` meets its contract: a row's value, as its operation says. Assumes nothing.
+use Rattle.base.specs.Base.{countWordOf}
+use Rattle.meaning.specs.Instruction.{executeOf}
+use Rattle.value.proofs.Rows.{row-told, none-told}
+use borrow.Author.Needs.{needs}
+use Rattle.value.proofs.count_words.Statement.{statement}
+use Rattle.value.proofs.count_words.Tie as tie
+
+pub count-words-spec : {M : Type 1} → statement M
+unfolding countWordOf executeOf
+count-words-spec =
+    tie.close
+    (tie.spec
+    (λ c. search needs)
+    (λ c. search needs)
+    (λ c. search needs)
+    (λ c. search needs)
+    (λ c. search needs)
+    (λ c. search needs)
+    (λ c. search needs)
+    (λ c κs. search needs)
+    (λ c κs. search needs)
+    (λ c κs. search needs)
+    (λ c κs. search needs)
+    (λ c κs. search needs)
+    (λ c κs. search needs)
+    (λ c κs. search needs)
+    (λ c b. row-told _ _ (c .told .ensures) _ _ _ _ (λ w pc ssp x s m map p q. rw (c .before .before .match .keys1, p, c .before .leading-word .ensures)))
+    (λ c b. row-told _ _ (c .told2 .ensures) _ _ _ _ (λ w pc ssp x s m map p q. rw (c .before .before .match .keys2, p, c .before .trailing-word .ensures)))
+    (λ c b. row-told _ _ (c .told3 .ensures) _ _ _ _ (λ w pc ssp x s m map p q. rw (c .before .before .match .keys3, p, c .before .set-word .ensures)))
+    (λ c b. none-told _ (c .none .ensures) _ _ _ _))
