@@ -58,7 +58,13 @@ pub fn is_good(t: &[u64; 512], line: &[u8], upper: u64, len: u64) -> bool
     requires { ⌜ IsTable (now t) × (sumOf (now line) ≡ 0) × (length (now line) ≡ 2 * countOf (now line) + 11) × (upper ≤ 65535) × (len ≤ 1048576) ⌝ }
     ensures { λ r. ⌜ r ≡ good len upper (now (line .entry)) ⌝ }
 {
-    is_fit(pair::byte(t, line, 3), pair::byte(t, line, 0), pair::half(t, line, 1), upper, len)
+    is_fit(
+        pair::byte(t, line, 3),
+        pair::byte(t, line, 0),
+        pair::half(t, line, 1),
+        upper,
+        len,
+    )
 }
 
 // The upper address after a well-formed line.

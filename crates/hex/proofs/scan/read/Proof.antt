@@ -35,6 +35,13 @@ returns-5 c =
     let s = a .before .before .before .before .before in
     read-none (s .args .text .now) (s .args .at) _ _ _ (c .none5 .ensures) (none-end (s .args .text .now) (s .args .at) _ (a .any .ensures .0) (e .ensures .goes (c .before .if5 .taken)))
 
+pairs-requires : tie.Need-pairs-requires
+pairs-requires c κs =
+    let r = c .before .before in
+    let a = r .before .before in
+    let s = a .before .before .before .before .before in
+    (s .pre .0, omega arith, omega (arith, r .before .if3 .left), r .if4 .left, omega arith)
+
 returns-6 : tie.Need-returns-6
 returns-6 c =
     let e = c .before .before .end in
@@ -45,4 +52,27 @@ returns-6 c =
     read-line (s .args .text .now) (s .args .at) _ (a .any .ensures .0) (s .pre .1) (i .if1 .left) (r .before .if3 .left) (r .if4 .left) _ (c .pairs .ensures) _ (e .ensures) (omega (arith, c .before .if5 .left))
 
 pub read-spec : {M : Type 1} → statement M
-read-spec = tie.close (tie.spec returns)
+read-spec =
+    tie.close
+    (tie.spec
+    (λ c. search needs)
+    (λ c κs. search needs)
+    returns
+    (λ c. search needs)
+    (λ c κs. search needs)
+    returns-2
+    (λ c. search needs)
+    (λ c κs. (c .before .before .before .before .pre .0, omega (arith, c .if2 .left)))
+    (λ c κs. search needs)
+    returns-3
+    (λ c. search needs)
+    (λ c. search needs)
+    (λ c. search needs)
+    (λ c κs. search needs)
+    returns-4
+    (λ c κs. search needs)
+    (λ c κs. search needs)
+    returns-5
+    (λ c. search needs)
+    pairs-requires
+    returns-6)
