@@ -21,6 +21,10 @@ fn pairs(t: &[u64; 512], text: &[u8], from: usize, stop: usize) -> u64
 {
     let mut sum: u64 = 0;
     let mut i = from;
+    while i + 2 < stop {
+        sum = sum + pair::any(t, text, i) + pair::any(t, text, i + 2);
+        i = i + 4;
+    }
     while i < stop {
         sum = sum + pair::any(t, text, i);
         i = i + 2;
