@@ -17,7 +17,6 @@ use Rattle.hex.specs.Digits.{hexPairs, total}
 use Rattle.hex.specs.Line.{bytesOf, byteOf, countOf, offsetOf, kindOf, colon, counted, shaped, wellFormed, checked, isRead, addressOf, dataOf, inside, good}
 use Rattle.hex.specs.Load.{placed}
 use Rattle.hex.specs.Inner.{sumFrom, sumOf}
-use Rattle.hex.proofs.Digits.{by-test}
 use Rattle.hex.proofs.Pairs.{length-pairs, even}
 
 -- the tests in another order

@@ -1,15 +1,15 @@
 -- What the tests of `scan::read` say of the line that starts at a place.
 -- Assumes nothing.
 use mathlib.Core.Bool.{false}
-use mathlib.Core.List.{List, _∷_}
-use mathlib.Core.Path.{_≡_, refl, sym, ap, _∙_}
+use mathlib.Core.List.{List}
+use mathlib.Core.Path.{_≡_, sym, ap, _∙_}
 use Prim.Native.Nat.{ℕ, _+_, _-_, _*_, _<_, _≤_}
 use native.Mathlib.Omega.{arith}
 use lib.ListN.{length, getD}
 use Rattle.word.proofs.Either.{either}
 use Rattle.hex.specs.Digits.{pairsOf}
 use Rattle.hex.specs.Line.{byteOf, countOf, good}
-use Rattle.hex.specs.Inner.{weightOf, lineAt, sumOf, Judged, Ends, Read}
+use Rattle.hex.specs.Inner.{weightOf, lineAt, Judged, Ends, Read}
 use Rattle.hex.proofs.Digits.{by-test, pair-good}
 use Rattle.hex.proofs.Good.{bad-sum}
 use Rattle.hex.proofs.Scans.{two, no-colon, begun, spoilt-sum, line-long, sum-is, cut}

@@ -1,21 +1,20 @@
 -- The hex pairs of a line, one after another, and what they and the line's end make of the line.
 -- Assumes nothing.
 use mathlib.Core.Bool.{Bool, true, false}
-use mathlib.Core.List.{List, [], _∷_, append-assoc, append-nil}
+use mathlib.Core.List.{List, _∷_, append-assoc, append-nil}
 use mathlib.Core.Path.{_≡_, refl, sym, ap, _∙_}
 use Prim.Native.Nat.{ℕ, suc, _+_, _-_, _*_, _%_, _<_, _≤_}
 use native.Mathlib.Nat.{sub-self}
 use native.Mathlib.Omega.{arith}
-use borrow.Author.Tests.{ne-eqb, le-leb, lt-leb}
+use borrow.Author.Tests.{ne-eqb, le-leb}
 use lib.Dec.{leb}
 use lib.ListN.{length, getD, take, drop, length-drop, length-append}
 use lib.Seq.{drop-drop, take-add, length-take-le}
 use Rattle.word.specs.Choice.{pick}
 use Rattle.word.proofs.Either.{either}
 use Rattle.hex.specs.Digits.{hexPairs}
-use Rattle.hex.specs.Lines.{linesOf}
 use Rattle.hex.specs.Line.{colon}
-use Rattle.hex.specs.Inner.{weightOf, firstOf, lineAt, linesBehind, sumFrom, sumOf, Paired, Judged, Ends, Cut}
+use Rattle.hex.specs.Inner.{weightOf, lineAt, linesBehind, sumFrom, sumOf, Paired, Judged, Ends, Cut}
 use Rattle.hex.proofs.Digits.{weight-most, pair-good, pair-bad, pair-large, no-end}
 use Rattle.hex.proofs.Lines.{at-place, some, first-byte, goes-on}
 use Rattle.hex.proofs.Pairs.{sum-none, sum-pair, sum-bad}
@@ -113,13 +112,12 @@ module _ (t : List ℕ) (from stop : ℕ) where
 
   -- all of them
   module _ (i s : ℕ) (a : Along t from stop i s) (n : stop ≤ i) where
-    pub judged-right : s < 0x10_0000 → Judged t from stop (s % 256)
-    judged-right z =
+    pub judged : (r : ℕ) → (s < 0x10_0000 → r ≡ s % 256) → (0x10_0000 ≤ s → r ≡ 256) → Judged t from stop r
+    judged r f g =
         let e : i ≡ stop = omega (arith, a .high) in
-        record { right = λ _. rw e at (a .right z); wrong = λ w. absurd (omega arith) }
-
-    pub judged-wrong : 0x10_0000 ≤ s → Judged t from stop 256
-    judged-wrong z = record { right = λ w. absurd (omega arith); wrong = λ _. a .wrong z }
+        either s 0x10_0000
+        (λ l. let k = f l in record { right = λ _. rw (e, ← k) at (a .right l); wrong = λ w. absurd (omega arith) })
+        (λ l. let k = g l in record { right = λ w. absurd (omega arith); wrong = λ _. a .wrong l })
 
 same : (b : Bool) (n : ℕ) → pick b n n ≡ n
 same true n = refl

@@ -1,5 +1,4 @@
 -- `hex::scan::read` meets its contract: no colon, no count, no room or end where the count says, or a line. Assumes nothing.
-use mathlib.Core.Path.{_≡_, sym, _∙_}
 use native.Mathlib.Omega.{arith}
 use borrow.Author.Needs.{needs}
 use Rattle.hex.proofs.Readings.{read-none, none-colon, none-short, none-count, none-room, none-end, read-line}
