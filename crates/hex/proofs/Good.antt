@@ -17,7 +17,6 @@ use Rattle.hex.specs.Digits.{hexPairs, total}
 use Rattle.hex.specs.Line.{bytesOf, byteOf, countOf, offsetOf, kindOf, colon, counted, shaped, wellFormed, checked, isRead, addressOf, dataOf, inside, good}
 use Rattle.hex.specs.Load.{placed}
 use Rattle.hex.specs.Inner.{sumFrom, sumOf}
-use Rattle.hex.proofs.Digits.{by-test}
 use Rattle.hex.proofs.Pairs.{length-pairs, even}
 
 -- the tests in another order
@@ -81,15 +80,12 @@ module _ (l : List ℕ) where
         let k = simp length-drop at (even (drop 1 l) h) in
         omega (arith, bytes-length)
 
-  -- what is left to test of a line with the sum 0
+  -- what is left to test of a line with the sum 0 that is as long as its count says
   module _ (z : sumOf l ≡ 0) (len upper : ℕ) where
     pub good-by : length l ≡ 2 * countOf l + 11
         → shaped (kindOf l) (countOf l) (offsetOf l) && (isRead (kindOf l) && inside len (kindOf l) (countOf l) (upper * 65536 + offsetOf l)) ≡ good len upper l
     unfolding addressOf
     good-by n = rw (good-is len upper, eq-eqb (sumOf l) 0 z, counted-is (paired l z .0) n)
-
-    pub bad-length : (length l ≡ 2 * countOf l + 11 → ⊥) → good len upper l ≡ false
-    bad-length n = by-test (counted l) (λ c. absurd (n (counted-long (paired l z .0) c))) (λ c. rw (good-is len upper, eq-eqb (sumOf l) 0 z, c))
 
   -- a well-formed line
   pub formed : wellFormed l ≡ true

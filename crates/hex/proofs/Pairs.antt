@@ -11,7 +11,7 @@ use lib.ListN.{length, getD, drop}
 use Rattle.word.proofs.Bools.{both}
 use Rattle.hex.specs.Digits.{digitOf, isDigit, hexPairs, pairsOf, total}
 use Rattle.hex.specs.Line.{byteOf}
-use Rattle.hex.specs.Inner.{sumFrom}
+use Rattle.hex.specs.Inner.{weightOf, sumFrom}
 use Rattle.hex.proofs.Digits.{pair-good}
 
 pub length-pairs : (ds : List ℕ) → length (pairsOf ds) ≡ length ds / 2
@@ -61,10 +61,10 @@ pub sum-none : (s : ℕ) → s < 256 → sumFrom s [] ≡ s
 unfolding sumFrom hexPairs pairsOf total
 sum-none s h = omega arith
 
-pub sum-pair : (s x y b : ℕ) (rest : List ℕ) → b ≡ digitOf x * 16 + digitOf y → b ≤ 255 → sumFrom s (x ∷ y ∷ rest) ≡ sumFrom ((s + b) % 256) rest
+pub sum-pair : (s x y b : ℕ) (rest : List ℕ) → b ≡ weightOf x * 16 + weightOf y → b ≤ 255 → sumFrom s (x ∷ y ∷ rest) ≡ sumFrom ((s + b) % 256) rest
 unfolding sumFrom hexPairs pairsOf total isDigit
 sum-pair s x y b rest e h =
-    let (p, q) = pair-good x y b e h in
+    let (p, q, g) = pair-good x y b e h in
     let f : (s + (digitOf x * 16 + digitOf y + total (pairsOf rest))) % 256 ≡ ((s + b) % 256 + total (pairsOf rest)) % 256 = omega arith in
     rw (lt-ltb (digitOf x) 16 p, lt-ltb (digitOf y) 16 q, f)
 

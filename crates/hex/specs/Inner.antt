@@ -1,21 +1,30 @@
 -- What the contracts of the inner functions speak of. Nothing of the promise (specs/Load.antt) rests on it.
 --
 -- Below, t is a text, i and at are places in it.
-use mathlib.Core.Bool.{Bool, true, _&&_}
+use mathlib.Core.Bool.{Bool, true, false, _&&_}
 use mathlib.Core.List.{List, [], _∷_, _++_}
 use mathlib.Core.Path.{_≡_}
-use Prim.Native.Nat.{ℕ, _+_, _-_, _*_, _/_, _%_, _<_, _≤_}
+use Prim.Native.Nat.{ℕ, _+_, _-_, _*_, _%_, _<_, _≤_}
 use lib.Dec.{leb}
-use lib.ListN.{length, take, drop}
+use lib.ListN.{length, getD, take, drop}
 use Rattle.word.specs.Choice.{pick}
-use Rattle.hex.specs.Digits.{hexPairs, pairsOf, total}
+use Rattle.hex.specs.Digits.{digitOf, isDigit, hexPairs, pairsOf, total}
 use Rattle.hex.specs.Lines.{linesOf}
-use Rattle.hex.specs.Line.{colon, good}
+use Rattle.hex.specs.Line.{countOf, colon, good}
 use Rattle.hex.specs.Load.{upperAfter}
 
--- what the code makes of a byte, the value of a digit where it is one
-abbrev pub valueOf : (b : ℕ) → ℕ
-valueOf b = b % 16 + b / 64 * 9
+-- what the code makes of a byte: the value of a digit, and for any other byte more than all pairs of a line add up to (260 times 255)
+unfoldable pub weightOf : (b : ℕ) → ℕ
+weightOf b = pick (isDigit b) (digitOf b) 0x10_0000
+
+-- the code's table, as far as byte k: what each byte is as the lower digit of a pair, and 256 places on what it is as the upper one
+pub record Filled (t : List ℕ) (k : ℕ) : Type 0 where
+  pub size : length t ≡ 512
+  pub low : (b : ℕ) → b < k → getD t b 0 ≡ weightOf b
+  pub high : (b : ℕ) → b < k → getD t (256 + b) 0 ≡ weightOf b * 16
+
+abbrev pub IsTable : (t : List ℕ) → Type 0
+IsTable t = Filled t 256
 
 -- the first of some lines, empty where there is none, and those behind it
 unfoldable pub firstOf : List (List ℕ) → List ℕ
@@ -50,6 +59,11 @@ pub record Paired (t : List ℕ) (from to s : ℕ) : Type 0 where
   pub line : lineAt t from ≡ take (to - from) (drop from t) ++ lineAt t to
   pub behind : linesBehind t from ≡ linesBehind t to
 
+-- s is the sum of the hex pairs from one place to another, or at least 256: then a line that reaches as far is not hex pairs
+pub record Judged (t : List ℕ) (from to s : ℕ) : Type 0 where
+  pub right : s < 256 → Paired t from to s
+  pub wrong : 256 ≤ s → to - from ≤ length (lineAt t from) → sumFrom 0 (lineAt t from) ≡ 256
+
 -- a line ends at a place, and the next starts at r; where the line goes on, r is 0
 pub record Ends (t : List ℕ) (i r : ℕ) : Type 0 where
   pub goes : r ≡ 0 → 0 < length (lineAt t i)
@@ -62,6 +76,13 @@ pub record Cut (t : List ℕ) (at stop next : ℕ) : Type 0 where
   pub on : at < next
   pub last : next ≤ length t
   pub lines : linesOf (drop at t) ≡ take (stop - at) (drop at t) ∷ linesOf (drop next t)
+
+-- the line that starts at a place has the sum s and is as long as its count says; or s is at least 256, and it is not good
+pub record Read (t : List ℕ) (at s stop next : ℕ) : Type 0 where
+  pub cut : s < 256 → Cut t at stop next
+  pub sum : s < 256 → sumOf (lineAt t at) ≡ s
+  pub long : s < 256 → length (lineAt t at) ≡ 2 * countOf (lineAt t at) + 11
+  pub wrong : 256 ≤ s → (len upper : ℕ) → good len upper (lineAt t at) ≡ false
 
 -- every line is good by itself
 unfoldable pub allGood : (len upper : ℕ) → (ls : List (List ℕ)) → Bool

@@ -2,7 +2,7 @@
 ghost use mathlib.Core.Path.{_≡_};
 ghost use Rattle.hex.specs.Load.{loadOf};
 
-// Hex digits and pairs.
+// Hex digits and pairs, and the table of them.
 mod pair;
 // A line of a text: its hex pairs, and its end.
 mod scan;
@@ -40,10 +40,11 @@ pub fn load(text: &[u8], mem: &mut [u8]) -> Loaded
     if memory::refused(mem.len() as u64) {
         return refused(2, 0);
     }
-    let v = verdict::first_bad(text, mem.len() as u64);
+    let t = pair::table();
+    let v = verdict::first_bad(&t, text, mem.len() as u64);
     let bad = v.line;
     if bad == 0 {
-        store::store(text, mem);
+        store::store(&t, text, mem);
         let s = v.start;
         return Loaded {
             refusal: 0,

@@ -3,9 +3,10 @@ ghost use mathlib.Core.Path.{_≡_};
 ghost use mathlib.Core.Bool.{true, _&&_};
 ghost use Prim.Native.Nat.{_+_, _*_, _^_, _<_, _≤_};
 ghost use lib.Dec.{eqb};
-ghost use Rattle.hex.specs.Line.{shaped, wellFormed, isRead, inside, good};
+ghost use lib.ListN.{length};
+ghost use Rattle.hex.specs.Line.{countOf, shaped, wellFormed, isRead, inside, good};
 ghost use Rattle.hex.specs.Load.{upperAfter, startAfter};
-ghost use Rattle.hex.specs.Inner.{sumOf};
+ghost use Rattle.hex.specs.Inner.{IsTable, sumOf};
 use super::pair;
 
 // given is 1 if there is a start address, else 0, and then address is 0.
@@ -52,38 +53,40 @@ fn is_fit(kind: u64, count: u64, offset: u64, upper: u64, len: u64) -> bool
     }
 }
 
-// A line of hex pairs with the right checksum is good: it is as long as its count says, and what its type asks for.
-pub fn is_good(line: &[u8], upper: u64, len: u64) -> bool
-    requires { ⌜ (sumOf (now line) ≡ 0) × (upper ≤ 65535) × (len ≤ 1048576) ⌝ }
+// A line of hex pairs with the right checksum that is as long as its count says is good if it is what its type asks for.
+pub fn is_good(t: &[u64; 512], line: &[u8], upper: u64, len: u64) -> bool
+    requires { ⌜ IsTable (now t) × (sumOf (now line) ≡ 0) × (length (now line) ≡ 2 * countOf (now line) + 11) × (upper ≤ 65535) × (len ≤ 1048576) ⌝ }
     ensures { λ r. ⌜ r ≡ good len upper (now (line .entry)) ⌝ }
 {
-    let count = pair::byte(line, 0);
-    if line.len() as u64 == 2 * count + 11 {
-        return is_fit(pair::byte(line, 3), count, pair::half(line, 1), upper, len);
-    }
-    false
+    is_fit(
+        pair::byte(t, line, 3),
+        pair::byte(t, line, 0),
+        pair::half(t, line, 1),
+        upper,
+        len,
+    )
 }
 
 // The upper address after a well-formed line.
-pub fn upper_after(upper: u64, line: &[u8]) -> u64
-    requires { ⌜ (wellFormed (now line) ≡ true) × (upper ≤ 65535) ⌝ }
+pub fn upper_after(t: &[u64; 512], upper: u64, line: &[u8]) -> u64
+    requires { ⌜ IsTable (now t) × (wellFormed (now line) ≡ true) × (upper ≤ 65535) ⌝ }
     ensures { λ r. ⌜ (r ≡ upperAfter upper (now (line .entry))) × (r ≤ 65535) ⌝ }
 {
-    if pair::byte(line, 3) == 4 {
-        return pair::half(line, 4);
+    if pair::byte(t, line, 3) == 4 {
+        return pair::half(t, line, 4);
     }
     upper
 }
 
 // The start address after a well-formed line.
-pub fn start_after(s: Start, line: &[u8]) -> Start
-    requires { ⌜ wellFormed (now line) ≡ true ⌝ }
+pub fn start_after(t: &[u64; 512], s: Start, line: &[u8]) -> Start
+    requires { ⌜ IsTable (now t) × (wellFormed (now line) ≡ true) ⌝ }
     ensures { λ r. ⌜ r ≡ startAfter s (now (line .entry)) ⌝ }
 {
-    if pair::byte(line, 3) == 5 {
+    if pair::byte(t, line, 3) == 5 {
         return Start {
             given: 1,
-            address: pair::half(line, 4) * 65536 + pair::half(line, 6),
+            address: pair::half(t, line, 4) * 65536 + pair::half(t, line, 6),
         };
     }
     s

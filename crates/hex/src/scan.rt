@@ -1,42 +1,44 @@
-// A line of a text: its hex pairs, and its end, which is looked for behind them and nowhere else.
+// A line of a text, whose count tells where it ends: its hex pairs up to there, and its end.
 ghost use mathlib.Core.Path.{_≡_};
 ghost use mathlib.Core.Bool.{false};
-ghost use Prim.Native.Nat.{_+_, _<_, _≤_};
+ghost use Prim.Native.Nat.{_+_, _-_, _%_, _<_, _≤_};
 ghost use lib.ListN.{length};
-ghost use Rattle.hex.specs.Digits.{hexPairs};
-ghost use Rattle.hex.specs.Inner.{lineAt, sumOf, Paired, Ends, Cut};
+ghost use Rattle.hex.specs.Inner.{IsTable, Judged, Ends, Read};
 use super::pair;
 
-// Hex pairs up to stop, and their sum modulo 256.
-struct Run {
-    stop: usize,
-    sum: u64,
-}
-
-// The sum of a line modulo 256; 256 where it is not a colon and at least five hex pairs. Else the line goes up to stop, and the next starts at next.
+// The sum of a line modulo 256; 256 where it is none that is as long as its count says. Else the line goes up to stop, and the next starts at next.
 pub struct Scan {
     pub sum: u64,
     pub stop: usize,
     pub next: usize,
 }
 
-// The hex pairs from a place on: behind them the line ends, or something else follows.
-fn pairs(text: &[u8], from: usize) -> Run
-    requires { ⌜ from ≤ length (now text) ⌝ }
-    ensures { λ r. ⌜ Paired (now (text .entry)) from (r .stop) (r .sum) ⌝ }
-    ensures { λ r. ⌜ (0 < length (lineAt (now (text .entry)) (r .stop)) → hexPairs (lineAt (now (text .entry)) (r .stop)) ≡ false) ⌝ }
+// A sum modulo 256; 256 where some byte of it was no digit. No byte is tested by itself: one that is no digit makes the sum too large.
+fn judged(sum: u64) -> u64
+    ensures { λ r. ⌜ (sum < 0x10_0000 → r ≡ sum % 256) × (0x10_0000 ≤ sum → r ≡ 256) ⌝ }
+{
+    if sum < 0x10_0000 {
+        return sum % 256;
+    }
+    256
+}
+
+// What the hex pairs from one place to another add up to, modulo 256; 256 where some byte is no digit. It takes two pairs a turn, which is
+// quicker than one (docs/SPEED.md).
+fn pairs(t: &[u64; 512], text: &[u8], from: usize, stop: usize) -> u64
+    requires { ⌜ IsTable (now t) × (from ≤ stop) × (stop ≤ from + 520) × (stop ≤ length (now text)) × ((stop - from) % 2 ≡ 0) ⌝ }
+    ensures { λ r. ⌜ Judged (now (text .entry)) from stop r ⌝ }
 {
     let mut sum: u64 = 0;
     let mut i = from;
-    while i + 1 < text.len() {
-        let b = pair::any(text, i);
-        if 255 < b {
-            return Run { stop: i, sum };
-        }
-        sum = (sum + b) % 256;
-        i = i + 2;
+    while i + 2 < stop {
+        sum = sum + pair::any(t, text, i) + pair::any(t, text, i + 2);
+        i = i + 4;
     }
-    Run { stop: i, sum }
+    if i < stop {
+        return judged(sum + pair::any(t, text, i));
+    }
+    judged(sum)
 }
 
 // Where the next line starts, if the line ends at this place; else 0.
@@ -72,25 +74,30 @@ fn none(at: usize) -> Scan
 }
 
 // The line that starts at a place.
-pub fn read(text: &[u8], at: usize) -> Scan
-    requires { ⌜ at < length (now text) ⌝ }
-    ensures { λ r. ⌜ r .sum ≡ sumOf (lineAt (now (text .entry)) at) ⌝ }
-    ensures { λ r. ⌜ (r .sum < 256 → Cut (now (text .entry)) at (r .stop) (r .next)) ⌝ }
+pub fn read(t: &[u64; 512], text: &[u8], at: usize) -> Scan
+    requires { ⌜ IsTable (now t) × (at < length (now text)) ⌝ }
+    ensures { λ r. ⌜ Read (now (text .entry)) at (r .sum) (r .stop) (r .next) ⌝ }
 {
     if text[at] != 58 {
         return none(at);
     }
-    let p = pairs(text, at + 1);
-    let stop = p.stop;
+    if text.len() - at < 11 {
+        return none(at);
+    }
+    let count = pair::any(t, text, at + 1);
+    if 255 < count {
+        return none(at);
+    }
+    let stop = at + (11 + 2 * count as usize);
+    if text.len() < stop {
+        return none(at);
+    }
     let next = end(text, stop);
     if next == 0 {
         return none(at);
     }
-    if stop < at + 11 {
-        return none(at);
-    }
     Scan {
-        sum: p.sum,
+        sum: pairs(t, text, at + 1, stop),
         stop,
         next,
     }

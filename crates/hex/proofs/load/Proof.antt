@@ -20,28 +20,33 @@ returns c =
 
 first-bad-requires : tie.Need-first-bad-requires
 first-bad-requires c κs =
-    let s = c .before .before .before .before .args in
-    accepted (length (s .mem .now)) (sym (c .before .refused .ensures) ∙ c .if1 .left) .2
+    let i = c .before .before in
+    let s = i .before .before .before .before .args in
+    (c .before .table .ensures, accepted (length (s .mem .now)) (sym (i .before .refused .ensures) ∙ i .if1 .left) .2)
 
 store-requires : tie.Need-store-requires
 store-requires c κs =
-    let s = c .before .before .before .before .before .before .before .args in
-    none-bad (length (s .mem .now)) 0 1 (linesOf (s .text .now)) (omega arith) (sym (c .before .before .first-bad .ensures .0) ∙ c .before .if2 .taken)
+    let i = c .before .before in
+    let t = i .before .before .before in
+    let s = t .before .before .before .before .before .args in
+    (t .table .ensures, none-bad (length (s .mem .now)) 0 1 (linesOf (s .text .now)) (omega arith) (sym (i .before .first-bad .ensures .0) ∙ i .if2 .taken))
 
 returns-2 : tie.Need-returns-2
 returns-2 c =
-    let i = c .before .before .before .before .before in
+    let i = c .before .before .before .before .before .before in
     let j = i .before .first-bad in
-    let s = i .before .before .before .before .before .before .args in
-    let (a, m) = taken (s .text .now) (s .mem .now) (sym (i .before .before .before .refused .ensures) ∙ i .before .before .if1 .left) (j .result .line) (j .ensures .0) (i .if2 .taken) in
+    let n = i .before .before .before .before in
+    let s = n .before .before .before .before .args in
+    let (a, m) = taken (s .text .now) (s .mem .now) (sym (n .before .refused .ensures) ∙ n .if1 .left) (j .result .line) (j .ensures .0) (i .if2 .taken) in
     (ap (λ (x : Start). answered 0 0 x (s .mem .now) .answer) (j .ensures .1 (i .if2 .taken)) ∙ a, c .before .before .before .store .ensures ∙ m)
 
 returns-3 : tie.Need-returns-3
 returns-3 c =
     let i = c .before in
     let j = i .before .first-bad in
-    let s = i .before .before .before .before .before .before .args in
-    let (a, m) = refused-6 (s .text .now) (s .mem .now) (sym (i .before .before .before .refused .ensures) ∙ i .before .before .if1 .left) (j .result .line) (j .ensures .0) (i .if2 .left) in
+    let n = i .before .before .before .before in
+    let s = n .before .before .before .before .args in
+    let (a, m) = refused-6 (s .text .now) (s .mem .now) (sym (n .before .refused .ensures) ∙ n .if1 .left) (j .result .line) (j .ensures .0) (i .if2 .left) in
     (c .refused3 .ensures ∙ a, m)
 
 pub load-spec : {M : Type 1} → statement M
@@ -51,6 +56,7 @@ load-spec =
     (λ c κs. search needs)
     (λ c κs. search needs)
     returns
+    (λ c κs. search needs)
     first-bad-requires
     store-requires
     (λ c. search needs)

@@ -9,12 +9,16 @@ use Rattle.hex.proofs.line.start_after.Statement.{statement}
 use Rattle.hex.proofs.line.start_after.Tie as tie
 
 half-requires : tie.Need-half-requires
-half-requires c κs = let (x, n) = room-5 _ (c .before .before .before .pre) (sym (c .before .byte .ensures .0) ∙ c .if1 .taken) in (x, omega arith)
+half-requires c κs =
+    let s = c .before .before .before in
+    let (x, n) = room-5 _ (s .pre .1) (sym (c .before .byte .ensures .0) ∙ c .if1 .taken) in
+    (s .pre .0, x, omega arith)
 
 half-requires-2 : tie.Need-half-requires-2
 half-requires-2 c κs =
-    let (x, n) = room-5 _ (c .before .before .before .before .pre) (sym (c .before .before .byte .ensures .0) ∙ c .before .if1 .taken) in
-    (x, omega arith)
+    let s = c .before .before .before .before in
+    let (x, n) = room-5 _ (s .pre .1) (sym (c .before .before .byte .ensures .0) ∙ c .before .if1 .taken) in
+    (s .pre .0, x, omega arith)
 
 returns : tie.Need-returns
 unfolding startAfter
@@ -28,4 +32,4 @@ returns-2 c = rw (ne-eqb _ 5 (λ e. c .if1 .left (c .before .byte .ensures .0 �
 pub start-after-spec : {M : Type 1} → statement M
 start-after-spec =
     tie.close
-    (tie.spec (λ c κs. let (x, n) = long _ (c .before .pre) in (x, omega arith)) half-requires (λ c. search needs) half-requires-2 (λ c. search needs) returns returns-2)
+    (tie.spec (λ c κs. let (x, n) = long _ (c .before .pre .1) in (c .before .pre .0, x, omega arith)) half-requires (λ c. search needs) half-requires-2 (λ c. search needs) returns returns-2)

@@ -11,8 +11,8 @@ use Rattle.hex.proofs.line.upper_after.Tie as tie
 
 half-requires : tie.Need-half-requires
 half-requires c κs =
-    let (x, n) = room-4 _ (c .before .before .before .pre .0) (sym (c .before .byte .ensures .0) ∙ c .if1 .taken) in
-    (x, omega arith)
+    let (x, n) = room-4 _ (c .before .before .before .pre .1) (sym (c .before .byte .ensures .0) ∙ c .if1 .taken) in
+    (c .before .before .before .pre .0, x, omega arith)
 
 returns : tie.Need-returns
 unfolding upperAfter
@@ -25,7 +25,7 @@ unfolding upperAfter
 returns-2 c =
     let b = c .before in
     let s = b .before .before in
-    (sym (second _ _ _ (ne-eqb (kindOf (s .args .line .now)) 4 (λ e. c .if1 .left (b .byte .ensures .0 ∙ e)))), s .pre .1)
+    (sym (second _ _ _ (ne-eqb (kindOf (s .args .line .now)) 4 (λ e. c .if1 .left (b .byte .ensures .0 ∙ e)))), s .pre .2)
 
 pub upper-after-spec : {M : Type 1} → statement M
-upper-after-spec = tie.close (tie.spec (λ c κs. let (x, n) = long _ (c .before .pre .0) in (x, omega arith)) half-requires returns returns-2)
+upper-after-spec = tie.close (tie.spec (λ c κs. let (x, n) = long _ (c .before .pre .1) in (c .before .pre .0, x, omega arith)) half-requires returns returns-2)

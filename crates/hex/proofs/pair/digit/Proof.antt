@@ -1,5 +1,4 @@
 -- `hex::pair::digit` meets its contract: a test an arm. Assumes nothing.
-use mathlib.Core.Path.{_∙_}
 use Prim.Native.Nat.{_/_, _%_, _^_}
 use native.Mathlib.Omega.{arith}
 use borrow.Author.Needs.{needs}
@@ -20,7 +19,7 @@ returns-2 c =
 returns-3 : tie.Need-returns-3
 unfolding formula
 returns-3 c =
-    (c .value .ensures .0 ∙ rw (le-ltb 63 _ (c .before .before .if1 .left), ne-eqb (0x007e_0000_007e_03ff / 2 ^ _ % 2) 0 (c .before .if2 .left)) at (told (c .before .before .before .args .b) (omega arith)), omega arith)
+    (rw (le-ltb 63 _ (c .before .if1 .left), ne-eqb (0x007e_0000_007e_03ff / 2 ^ _ % 2) 0 (c .if2 .left)) at (told (c .before .before .args .b) (omega arith)), omega arith)
 
 pub digit-spec : {M : Type 1} → statement M
-digit-spec = tie.close (tie.spec (λ c. search needs) returns (λ c. search needs) returns-2 (λ c κs. search needs) returns-3)
+digit-spec = tie.close (tie.spec (λ c. search needs) returns (λ c. search needs) returns-2 (λ c. search needs) (λ c. search needs) returns-3)

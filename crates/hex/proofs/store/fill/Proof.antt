@@ -12,12 +12,12 @@ use Rattle.hex.proofs.store.fill.Statement.{statement}
 use Rattle.hex.proofs.store.fill.Tie as tie
 
 abbrev Inv-loop : tie.InvT-loop
-Inv-loop mem₀ to line count k₀ mem k =
+Inv-loop t mem₀ to line count k₀ mem k =
     (k ≤ count) × (length mem ≡ length mem₀)
     × (sets mem (to + k) (drop k (take count (drop 4 (bytesOf line)))) ≡ sets mem₀ to (take count (drop 4 (bytesOf line))))
 
 abbrev μ-loop : tie.MeasureT-loop
-μ-loop mem₀ to line count k₀ mem k = count - k
+μ-loop t mem₀ to line count k₀ mem k = count - k
 
 loop-again : tie.Need-loop-again Inv-loop μ-loop
 loop-again c =
@@ -25,14 +25,14 @@ loop-again c =
     let s = a .before .before .before in (
       omega arith,
       simp length-set (a .loop .inv .1),
-      fill-turn (s .args .line .now) (s .args .count) (s .pre .1) (a .loop .mem) (s .args .to) (a .loop .k) (c .byte .result) (c .before .loop-test .taken) (c .byte .ensures .0) ∙ a .loop .inv .2,
+      fill-turn (s .args .line .now) (s .args .count) (s .pre .2) (a .loop .mem) (s .args .to) (a .loop .k) (c .byte .result) (c .before .loop-test .taken) (c .byte .ensures .0) ∙ a .loop .inv .2,
     )
 
 returns : tie.Need-returns Inv-loop μ-loop
 returns c =
     let a = c .before in
     let s = a .before .before .before in
-    fill-end (s .args .line .now) (s .args .count) (s .pre .1) (a .loop .mem) (s .args .to + a .loop .k) (a .loop .k) (c .loop-test .left) ∙ a .loop .inv .2
+    fill-end (s .args .line .now) (s .args .count) (s .pre .2) (a .loop .mem) (s .args .to + a .loop .k) (a .loop .k) (c .loop-test .left) ∙ a .loop .inv .2
 
 pub fill-spec : {M : Type 1} → statement M
 fill-spec =
@@ -42,7 +42,7 @@ fill-spec =
     μ-loop
     (λ c. (omega arith, refl, rw add-zero))
     (λ c. omega arith)
-    (λ c κs. let a = c .before in (a .before .before .before .pre .0, omega arith))
+    (λ c κs. let s = c .before .before .before .before in (s .pre .0, s .pre .1, omega arith))
     (λ c. search needs)
     (λ c. search needs)
     (λ c. search needs)

@@ -21,16 +21,16 @@ module _ (c : tie.After-half) where
       let s = c .before .before .before .before .before .before .before in
       let o = c .half .ensures .0 in
       let n = c .before .before .before .before .byte .ensures .0 in
-      let (p, q) = data-inside (length (s .args .mem .now)) (s .args .upper) (s .args .line .now) (s .pre .0) kind (omega (arith, c .before .if2 .taken)) in
+      let (p, q) = data-inside (length (s .args .mem .now)) (s .args .upper) (s .args .line .now) (s .pre .1) kind (omega (arith, c .before .if2 .taken)) in
       (omega arith, omega arith)
 
 fill-requires : tie.Need-fill-requires
 fill-requires c κs =
     let s = c .before .before .before .before .before .before .before .before in
-    let (x, n, _) = formed _ (well-formed _ _ _ (s .pre .0)) in
+    let (x, n, _) = formed _ (well-formed _ _ _ (s .pre .1)) in
     let e = c .before .before .before .before .before .byte .ensures .0 in
     let (p, q) = inside (c .before) in
-    (x, omega arith, omega arith)
+    (s .pre .0, x, omega arith, omega arith)
 
 returns : tie.Need-returns
 returns c =
@@ -55,10 +55,10 @@ pub put-spec : {M : Type 1} → statement M
 put-spec =
     tie.close
     (tie.spec
-    (λ c κs. let (x, n) = long _ (well-formed _ _ _ (c .before .before .pre .0)) in (x, omega arith))
-    (λ c κs. let (x, n) = long _ (well-formed _ _ _ (c .before .before .before .pre .0)) in (x, omega arith))
+    (λ c κs. let s = c .before .before in let (x, n) = long _ (well-formed _ _ _ (s .pre .1)) in (s .pre .0, x, omega arith))
+    (λ c κs. let s = c .before .before .before in let (x, n) = long _ (well-formed _ _ _ (s .pre .1)) in (s .pre .0, x, omega arith))
     (λ c. search needs)
-    (λ c κs. let (x, n) = long _ (well-formed _ _ _ (c .before .before .before .before .before .before .pre .0)) in (x, omega arith))
+    (λ c κs. let s = c .before .before .before .before .before .before in let (x, n) = long _ (well-formed _ _ _ (s .pre .1)) in (s .pre .0, x, omega arith))
     (λ c. search needs)
     (λ c. inside c .0)
     fill-requires

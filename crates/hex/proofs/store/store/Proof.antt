@@ -10,25 +10,28 @@ use Rattle.hex.specs.Lines.{linesOf}
 use Rattle.hex.specs.Load.{stored}
 use Rattle.hex.specs.Inner.{allGood}
 use Rattle.hex.proofs.Good.{well-formed}
+use Rattle.hex.proofs.Lines.{some}
 use Rattle.hex.proofs.Turns.{stored-line, all-line}
 use Rattle.hex.proofs.Whole.{Whole, here, whole}
 use Rattle.hex.proofs.store.store.Statement.{statement}
 use Rattle.hex.proofs.store.store.Tie as tie
 
 abbrev Inv-loop : tie.InvT-loop
-Inv-loop text mem₀ upper₀ at₀ mem upper at =
+Inv-loop t text mem₀ upper₀ at₀ mem upper at =
     (at ≤ length text) × (length mem ≡ length mem₀) × (upper ≤ 65535)
     × (allGood (length mem₀) upper (linesOf (drop at text)) ≡ true)
     × (stored 0 mem₀ (linesOf text) ≡ stored upper mem (linesOf (drop at text)))
 
 abbrev μ-loop : tie.MeasureT-loop
-μ-loop text mem₀ upper₀ at₀ mem upper at = length text - at
+μ-loop t text mem₀ upper₀ at₀ mem upper at = length text - at
 
 any-requires : tie.Need-any-requires Inv-loop μ-loop
 any-requires c κs =
     let a = c .before in
-    let s = a .before .before .before .args in
-    here (s .text .now) (a .loop .at) (c .loop-test .taken) (length (s .mem .now)) (a .loop .upper) (a .loop .inv .3)
+    let s = a .before .before .before in
+    let m = length (s .args .mem .now) in
+    let g = all-line m (a .loop .upper) (some (s .args .text .now) (a .loop .at) (c .loop-test .taken)) (a .loop .inv .3) .0 in
+    (s .pre .0, here (s .args .text .now) (a .loop .at) m (a .loop .upper) g)
 
 -- the line that the count tells, and where it ends
 module _ (c : tie.After-any Inv-loop μ-loop) where
@@ -36,18 +39,22 @@ module _ (c : tie.After-any Inv-loop μ-loop) where
   line =
       let a = c .before .before in
       let s = a .before .before .before .args in
-      whole (s .text .now) (a .loop .at) (c .before .loop-test .taken) (length (s .mem .now)) (a .loop .upper) (a .loop .inv .3) (c .any .result) (c .any .ensures .0)
+      let m = length (s .mem .now) in
+      let n = c .before .loop-test .taken in
+      let g = all-line m (a .loop .upper) (some (s .text .now) (a .loop .at) n) (a .loop .inv .3) .0 in
+      whole (s .text .now) (a .loop .at) m (a .loop .upper) g n (c .any .result) (c .any .ensures .0)
 
 put-requires : tie.Need-put-requires Inv-loop μ-loop
 put-requires c κs =
     let i = c .before .before in
     let a = i .before .before in
-    (rw (a .loop .inv .1) (line i .fine), a .loop .inv .2)
+    (a .before .before .before .pre .0, rw (a .loop .inv .1) (line i .fine), a .loop .inv .2)
 
 upper-after-requires : tie.Need-upper-after-requires Inv-loop μ-loop
 upper-after-requires c κs =
     let i = c .before .before .before .before .before in
-    (well-formed _ _ _ (line i .fine), i .before .before .loop .inv .2)
+    let a = i .before .before in
+    (a .before .before .before .pre .0, well-formed _ _ _ (line i .fine), a .loop .inv .2)
 
 loop-again : tie.Need-loop-again Inv-loop μ-loop
 loop-again c =
@@ -59,7 +66,7 @@ loop-again c =
     let k = line i .cuts (c .end .result) (c .end .ensures) in
     let more = linesOf (drop (c .end .result) (s .text .now)) in (
       k .last,
-      p .kept .0 ∙ a .loop .inv .1,
+      p .kept .1 .0 ∙ a .loop .inv .1,
       u .1,
       ap (λ (n : ℕ). allGood (length (s .mem .now)) n more) (u .0) ∙ all-line (length (s .mem .now)) (a .loop .upper) (k .lines) (a .loop .inv .3) .1,
       a .loop .inv .4
@@ -80,7 +87,7 @@ store-spec =
     (tie.spec
     Inv-loop
     μ-loop
-    (λ c. (omega arith, refl, omega arith, c .before .before .pre, refl))
+    (λ c. (omega arith, refl, omega arith, c .before .before .pre .1, refl))
     (λ c. search needs)
     any-requires
     (λ c. search needs)

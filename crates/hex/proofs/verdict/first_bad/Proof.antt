@@ -1,27 +1,29 @@
 -- `hex::verdict::first_bad` meets its contract: the first bad line is that of the lines from `at` on, read with what the lines before said. Assumes nothing.
 use mathlib.Core.List.{List}
 use mathlib.Core.Path.{_≡_, refl, sym, ap, _∙_}
-use Prim.Native.Nat.{ℕ, _≤_, _-_, _+_}
+use Prim.Native.Nat.{ℕ, _≤_, _-_, _+_, _*_}
 use lib.ListN.{length, take, drop, drop-of-length-le}
 use native.Mathlib.Omega.{arith}
 use borrow.Author.Needs.{needs}
 use Rattle.hex.specs.Lines.{linesOf}
+use Rattle.hex.specs.Line.{countOf}
 use Rattle.hex.specs.Load.{noStart, lastStart, firstBad}
 use Rattle.hex.specs.Inner.{sumOf, Cut}
-use Rattle.hex.proofs.Good.{paired, bad-sum, well-formed}
+use Rattle.hex.proofs.Good.{paired, well-formed}
 use Rattle.hex.proofs.Lines.{some, parts}
+use Rattle.hex.proofs.Readings.{read-bad}
 use Rattle.hex.proofs.Turns.{no-text, bad-line, good-line, end-line, start-line}
 use Rattle.hex.proofs.verdict.first_bad.Statement.{statement}
 use Rattle.hex.proofs.verdict.first_bad.Tie as tie
 
 abbrev Inv-loop : tie.InvT-loop
-Inv-loop text len upper₀ start₀ n₀ at₀ upper start n at =
+Inv-loop t text len upper₀ start₀ n₀ at₀ upper start n at =
     (at ≤ length text) × (1 ≤ n) × (n ≤ at + 1) × (upper ≤ 65535)
     × (firstBad len 0 1 (linesOf text) ≡ firstBad len upper n (linesOf (drop at text)))
     × (lastStart noStart (linesOf text) ≡ lastStart start (linesOf (drop at text)))
 
 abbrev μ-loop : tie.MeasureT-loop
-μ-loop text len upper₀ start₀ n₀ at₀ upper start n at = length text - at
+μ-loop t text len upper₀ start₀ n₀ at₀ upper start n at = length text - at
 
 -- a line that is not a colon and hex pairs, or has a wrong checksum
 returns : tie.Need-returns Inv-loop μ-loop
@@ -29,29 +31,32 @@ returns c =
     let r = c .before .before .read .ensures in
     let a = c .before .before .before .before in
     let s = a .before .before .args in (
-      sym (a .loop .inv .4 ∙ bad-line (s .len) (a .loop .upper) (some (s .text .now) (a .loop .at) (c .before .before .before .loop-test .taken)) (a .loop .n) (bad-sum _ (s .len) (a .loop .upper) (λ z. c .if1 .taken (r .0 ∙ z)))),
+      sym (a .loop .inv .4 ∙ bad-line (s .len) (a .loop .upper) (some (s .text .now) (a .loop .at) (c .before .before .before .loop-test .taken)) (a .loop .n) (read-bad (s .text .now) (a .loop .at) _ _ _ r (c .if1 .taken) (s .len) (a .loop .upper))),
       λ z. absurd (omega arith),
     )
 
 -- a line that has the sum 0
 module _ (c : tie.Else1 Inv-loop μ-loop) where
   cut : Cut (c .before .before .before .before .before .before .args .text .now) (c .before .before .before .before .loop .at) (c .before .before .read .result .stop) (c .before .before .read .result .next)
-  cut = c .before .before .read .ensures .1 (omega arith)
+  cut = c .before .before .read .ensures .cut (omega arith)
 
   zero : sumOf (take (c .before .before .read .result .stop - c .before .before .before .before .loop .at) (drop (c .before .before .before .before .loop .at) (c .before .before .before .before .before .before .args .text .now))) ≡ 0
-  zero = ap sumOf (sym (parts (cut .lines) .0)) ∙ sym (c .before .before .read .ensures .0) ∙ c .if1 .left
+  zero = ap sumOf (sym (parts (cut .lines) .0)) ∙ c .before .before .read .ensures .sum (omega arith) ∙ c .if1 .left
+
+  long : length (take (c .before .before .read .result .stop - c .before .before .before .before .loop .at) (drop (c .before .before .before .before .loop .at) (c .before .before .before .before .before .before .args .text .now))) ≡ 2 * countOf (take (c .before .before .read .result .stop - c .before .before .before .before .loop .at) (drop (c .before .before .before .before .loop .at) (c .before .before .before .before .before .before .args .text .now))) + 11
+  long = rw (parts (cut .lines) .0) at (c .before .before .read .ensures .long (omega arith))
 
 is-good-requires : tie.Need-is-good-requires Inv-loop μ-loop
 is-good-requires c κs =
     let i = c .before in
     let a = i .before .before .before .before in
-    (zero i, a .loop .inv .3, a .before .before .pre)
+    (a .before .before .pre .0, zero i, long i, a .loop .inv .3, a .before .before .pre .1)
 
 -- it is good
 upper-after-requires : tie.Need-upper-after-requires Inv-loop μ-loop
 upper-after-requires c κs =
     let a = c .before .before .before .before .before .before .before in
-    (well-formed (a .before .before .args .len) (a .loop .upper) _ (sym (c .before .is-good .ensures) ∙ c .if2 .taken), a .loop .inv .3)
+    (a .before .before .pre .0, well-formed (a .before .before .args .len) (a .loop .upper) _ (sym (c .before .is-good .ensures) ∙ c .if2 .taken), a .loop .inv .3)
 
 -- the end record
 returns-2 : tie.Need-returns-2 Inv-loop μ-loop
@@ -120,9 +125,9 @@ first-bad-spec =
     (λ c. cut c .high)
     is-good-requires
     upper-after-requires
-    (λ c κs. upper-after-requires (c .before) κs .0)
+    (λ c κs. let (x, w, _) = upper-after-requires (c .before) κs in (x, w))
     (λ c. search needs)
-    (λ c κs. let (x, n) = paired _ (zero (c .before .before .before .before .before)) in (x, omega arith))
+    (λ c κs. let (x, n) = paired _ (zero (c .before .before .before .before .before)) in (upper-after-requires (c .before .before) κs .0, x, omega arith))
     (λ c κs. search needs)
     returns-2
     (λ c. omega (arith, cut (c .before .before .before .before .before .before .before)))
