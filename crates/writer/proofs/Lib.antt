@@ -5,3 +5,4 @@ pub mod Cfi
 pub mod Decoded
 pub mod Answer
 pub mod Promised
+pub mod Reach
