@@ -12,6 +12,7 @@ use Rattle.numbers.specs.Numbers.{numbersOf}
 use Rattle.writer.specs.Pack.{packOf}
 use Rattle.writer.specs.Promise.{Reads, Answers, AnswersNumbers}
 use Rattle.numbers.proofs.Again.{told}
+use Rattle.writer.proofs.Answer.{packed}
 use Rattle.writer.proofs.Decoded.{decoded-back}
 
 -- what answers the numbers of an instruction answers the instruction
@@ -37,3 +38,10 @@ one-answer i Refused Refused a b = refl
 -- every word that reads as a legal instruction is what writing that instruction gives
 pub read-written : (w : ℕ) → w < 2 ^ 32 → (decodeOf w ≡ Illegal → ⊥) → (r : Written) → Answers (decodeOf w) r → r ≡ Word w
 read-written w h l r a = one-answer (decodeOf w) r (Word w) a (h, refl, l)
+
+-- the same of eight numbers
+pub one-answer-numbers : (n : Eight) (r s : Written) → AnswersNumbers n r → AnswersNumbers n s → r ≡ s
+one-answer-numbers n (Word v) (Word w) a b = ap Word (sym (packed n v a) ∙ packed n w b)
+one-answer-numbers n (Word v) Refused a b = absurd (b v a)
+one-answer-numbers n Refused (Word w) a b = absurd (a w b)
+one-answer-numbers n Refused Refused a b = refl
