@@ -289,3 +289,31 @@ fn the_indices_are_the_headers() {
     assert_eq!(places, [0, 1, 2, 3, 4, 5, 6, 7]);
     assert_eq!(names, expected.map(|name| format!("SPORHULMA_{name}")));
 }
+
+/// The decode cases, whose words come from the GNU assembler and whose numbers were made from the manuals' listings.
+#[test]
+fn the_decode_cases_are_read_and_written() {
+    let cases = include_str!("../../../crates/cases/data/decode.txt");
+    let mut seen = 0;
+    for line in cases.lines().filter(|line| !line.starts_with('#')) {
+        let (case, _) = line.split_once('#').expect("a case has its text");
+        let (word, wanted) = case.split_once('=').expect("a case has an answer");
+        let hex = |text: &str| u64::from_str_radix(text, 16).expect("a number");
+        let (word, wanted) = (hex(word.trim()) as u32, wanted.split_whitespace().map(hex));
+        let wanted: [u64; 9] = wanted.collect::<Vec<_>>().try_into().expect("nine numbers");
+        let mut numbers = [7; 8];
+        let refusal = read(word, &mut numbers);
+        assert_eq!(
+            (refusal == 0, &numbers[..]),
+            (wanted[FAMILY] != 0, &wanted[..8]),
+            "{line}"
+        );
+        assert_eq!(
+            u64::from(written(&numbers).unwrap_or(0)),
+            wanted[8],
+            "{line}"
+        );
+        seen += 1;
+    }
+    assert!(seen > 900, "{seen} cases");
+}
