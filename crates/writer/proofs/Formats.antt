@@ -28,7 +28,7 @@ whole w op d f a n h eo ed ef ea en =
     (w / 2 ^ 20) (w / 2 ^ 20 % 2 ^ 12) (omega arith) (omega arith) (omega arith) (omega arith) (omega arith))
 
 -- numbers that agree in their low bits agree in a part of them
-part :
+pub part :
     (j n lo x y : ℕ) → x % 2 ^ (j + n + lo) ≡ y % 2 ^ (j + n + lo) → x / 2 ^ lo % 2 ^ n ≡ y / 2 ^ lo % 2 ^ n
 part j n lo x y e =
     sym (mod-mod-pow (x / 2 ^ lo) j n)

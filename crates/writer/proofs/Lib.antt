@@ -6,3 +6,4 @@ pub mod Decoded
 pub mod Answer
 pub mod Promised
 pub mod Reach
+pub mod Reached

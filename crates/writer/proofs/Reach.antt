@@ -124,7 +124,7 @@ pub jump-refused : (d o : ℕ) → (InReach 21 o → ⊥) → (r : Written) → 
 jump-refused d o n (Word w) p = absurd (n (jump-reach w d o p))
 jump-refused d o n Refused p = refl
 
-branch-legal : (c : Condition) (a b o : ℕ) → Branch c a b o ≡ Illegal → ⊥
+pub branch-legal : (c : Condition) (a b o : ℕ) → Branch c a b o ≡ Illegal → ⊥
 branch-legal c a b o z = let e : _≡_ {A = ℕ} 5 0 = ap (λ (i : Instruction). numbersOf i .family) z in absurd (omega arith)
 
 jump-legal : (d o : ℕ) → Jal d o ≡ Illegal → ⊥
