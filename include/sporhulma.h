@@ -96,8 +96,9 @@ enum sporhulma_instruction {
 
 /* The family is sporhulma_family's number, and the operation tells the family's instructions apart: funct7 << 8 | rs2 << 3 | funct3 as
  * the manual lists them, with 0 for what is an operand (SUB 0x2000, MUL 0x100, CTZ 0x3009). A register is its number, 0 to 31. The
- * immediate is a number's 64 bits: (uint64_t)-4 for -4. FIRST and SECOND are what is left. The table has all that can be written; a
- * column that says nothing is 0. So `addi a0, a0, -1` is { 8, 0, 10, 10, 0, (uint64_t)-1, 0, 0 }.
+ * immediate is a number's 64 bits: (uint64_t)-4 for -4; LUI's and AUIPC's is the number itself, 4096 in `lui a0, 1`. FIRST and SECOND
+ * are what is left. The table has all that can be written; a column that says nothing is 0. So `addi a0, a0, -1` is
+ * { 8, 0, 10, 10, 0, (uint64_t)-1, 0, 0 }.
  *
  *  family         operation                                         registers         immediate                      first  second
  *   1 LUI         0                                                 rd                -2^31 to 2^31 - 4096, by 4096
