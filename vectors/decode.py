@@ -5,8 +5,8 @@ nothing. The words come from the assembler and the readings from the manifest, s
 that they test. Where the assembler is missing, the words are those of the stored data, and the manifest may not have
 changed since those were made.
 
-A line of the data is a word, '=', eight numbers and the text: family, operation, rd, rs1, rs2, immediate and two more,
-as crates/decoded/src/lib.rt says.
+A line of the data is a word, '=', nine numbers and the text: the instruction's eight, as include/sporhulma.h lays them out, and the
+word that writing them gives: the word itself, or 0 for what is illegal, which is refused.
 """
 import functools
 import pathlib
@@ -17,18 +17,31 @@ import sys
 import tempfile
 
 import manifest
-from manifest import SIGNS, WIDTHS, Case, Wrong, choice, hexadecimal, number, parts
+from manifest import Case, Wrong, choice, hexadecimal, number, parts
 
 NAME = "decode"
 PACKAGE = "binutils-riscv64-unknown-elf"
 # What the hart lacks is here too, so that the assembler knows the words that must be illegal.
 MARCH = "rv64imafdc_zicsr_zifencei_zihintpause_zicbom_zba_zbb_zbc_zbkb_zbs_svinval"
 
-CONDITIONS = ["equal", "not-equal", "less", "not-less", "less-unsigned", "not-less-unsigned"]
-OPERATIONS = ["add", "sub", "sll", "slt", "sltu", "xor", "srl", "sra", "or", "and",
-              "mul", "mulh", "mulhsu", "mulhu", "div", "divu", "rem", "remu", "min", "minu", "max", "maxu", "clz", "ctz", "cpop"]
-WORD_OPERATIONS = ["add", "sub", "sll", "srl", "sra", "mul", "div", "divu", "rem", "remu", "clz", "ctz", "cpop"]
-CSR_OPERATIONS = ["write", "set", "clear"]
+
+def key(funct7, rs2, funct3):
+    """An operation's number, as the manual's listings have its bits."""
+    return funct7 << 8 | rs2 << 3 | funct3
+
+
+CONDITIONS = {"equal": 0b000, "not-equal": 0b001, "less": 0b100, "not-less": 0b101, "less-unsigned": 0b110, "not-less-unsigned": 0b111}
+SHIFTS = {"sll": key(0, 0, 0b001), "srl": key(0, 0, 0b101), "sra": key(0b0100000, 0, 0b101)}
+COUNTS = {name: key(0b0110000, rs2, 0b001) for rs2, name in enumerate(["clz", "ctz", "cpop"])}
+OPERATIONS = {"add": 0, "sub": key(0b0100000, 0, 0), "slt": 0b010, "sltu": 0b011, "xor": 0b100, "or": 0b110, "and": 0b111, **SHIFTS, **COUNTS,
+              **{name: key(0b0000001, 0, i) for i, name in enumerate(["mul", "mulh", "mulhsu", "mulhu", "div", "divu", "rem", "remu"])},
+              **{name: key(0b0000101, 0, 4 + i) for i, name in enumerate(["min", "minu", "max", "maxu"])}}
+WORD_OPERATIONS = {name: OPERATIONS[name] for name in ["add", "sub", *SHIFTS, "mul", "div", "divu", "rem", "remu", *COUNTS]}
+LOADS = {"signed": {"byte": 0b000, "half": 0b001, "word": 0b010, "double": 0b011}, "unsigned": {"byte": 0b100, "half": 0b101, "word": 0b110}}
+STORES = LOADS["signed"]
+SWAPS = {"word": key(0b0100100, 0, 0b010), "double": key(0b0100100, 0, 0b011)}
+CSR_REGISTERS = {"write": 0b001, "set": 0b010, "clear": 0b011}
+CSR_IMMEDIATES = {"write": 0b101, "set": 0b110, "clear": 0b111}
 
 # The least and the largest value of each key.
 RANGES = {
@@ -37,20 +50,12 @@ RANGES = {
 }
 
 
-def numbers(family, operation=0, rd=0, rs1=0, rs2=0, imm=0, more=0, last=0):
-    return [family, operation, rd, rs1, rs2, imm % (1 << 64), more, last]
+def numbers(family, operation=0, rd=0, rs1=0, rs2=0, imm=0, first=0, second=0):
+    return [family, operation, rd, rs1, rs2, imm % (1 << 64), first, second]
 
 
-def place(name, names, what):
-    return choice(name, {n: i for i, n in enumerate(names)}, what)
-
-
-def width(name):
-    return choice(name, WIDTHS, "width")
-
-
-def sign(name):
-    return choice(name, SIGNS, "kind of load")
+def load(width, sign):
+    return choice(width, choice(sign, LOADS, "kind of load"), "width")
 
 
 # Of each family: how many names follow it, the keys that it must have, and its eight numbers.
@@ -60,30 +65,30 @@ FAMILIES = {
     "auipc": (0, "rd imm", lambda w, k: numbers(2, **k)),
     "jal": (0, "rd imm", lambda w, k: numbers(3, **k)),
     "jalr": (0, "rd rs1 imm", lambda w, k: numbers(4, **k)),
-    "branch": (1, "rs1 rs2 imm", lambda w, k: numbers(5, place(w[0], CONDITIONS, "condition"), **k)),
-    "load": (2, "rd rs1 imm", lambda w, k: numbers(6, 0, more=width(w[0]), last=sign(w[1]), **k)),
-    "store": (1, "rs1 rs2 imm", lambda w, k: numbers(6, 1, more=width(w[0]), **k)),
-    "push": (0, "rs2", lambda w, k: numbers(6, 2, more=8, **k)),
-    "pop": (0, "rs1", lambda w, k: numbers(6, 3, more=8, **k)),
-    "swap": (1, "rd rs1 rs2 aq rl", lambda w, k: numbers(
-        6, 4, k["rd"], k["rs1"], k["rs2"], 0, width(w[0]), k["aq"] * 2 + k["rl"])),
-    "op-imm": (1, "rd rs1 imm", lambda w, k: numbers(7, place(w[0], OPERATIONS, "operation"), **k)),
-    "op-imm-32": (1, "rd rs1 imm", lambda w, k: numbers(8, place(w[0], WORD_OPERATIONS, "word operation"), **k)),
-    "op": (1, "rd rs1 rs2", lambda w, k: numbers(9, place(w[0], OPERATIONS, "operation"), **k)),
-    "op-32": (1, "rd rs1 rs2", lambda w, k: numbers(10, place(w[0], WORD_OPERATIONS, "word operation"), **k)),
+    "branch": (1, "rs1 rs2 imm", lambda w, k: numbers(5, choice(w[0], CONDITIONS, "condition"), **k)),
+    "load": (2, "rd rs1 imm", lambda w, k: numbers(6, load(*w), **k)),
+    "store": (1, "rs1 rs2 imm", lambda w, k: numbers(7, choice(w[0], STORES, "width"), **k)),
+    "op-imm": (1, "rd rs1 imm", lambda w, k: numbers(8, choice(w[0], OPERATIONS, "operation"), **k)),
+    "op-imm-32": (1, "rd rs1 imm", lambda w, k: numbers(9, choice(w[0], WORD_OPERATIONS, "word operation"), **k)),
+    "op": (1, "rd rs1 rs2", lambda w, k: numbers(10, choice(w[0], OPERATIONS, "operation"), **k)),
+    "op-32": (1, "rd rs1 rs2", lambda w, k: numbers(11, choice(w[0], WORD_OPERATIONS, "word operation"), **k)),
     "fence": (0, "fm pred succ rs1 rd", lambda w, k: numbers(
-        11, k["fm"], k["rd"], k["rs1"], more=k["pred"], last=k["succ"])),
-    "ecall": (0, "", lambda w, k: numbers(12)),
-    "ebreak": (0, "", lambda w, k: numbers(13)),
-    "sret": (0, "", lambda w, k: numbers(14)),
-    "mret": (0, "", lambda w, k: numbers(15)),
+        12, k["fm"], k["rd"], k["rs1"], first=k["pred"], second=k["succ"])),
+    "ecall": (0, "", lambda w, k: numbers(13)),
+    "ebreak": (0, "", lambda w, k: numbers(14)),
+    "sret": (0, "", lambda w, k: numbers(15)),
+    "mret": (0, "", lambda w, k: numbers(16)),
     "csr-register": (1, "rd rs1 csr", lambda w, k: numbers(
-        16, place(w[0], CSR_OPERATIONS, "CSR operation"), k["rd"], k["rs1"], more=k["csr"], last=0)),
+        17, choice(w[0], CSR_REGISTERS, "CSR operation"), k["rd"], k["rs1"], first=k["csr"])),
     "csr-immediate": (1, "rd number csr", lambda w, k: numbers(
-        16, place(w[0], CSR_OPERATIONS, "CSR operation"), k["rd"], imm=k["number"], more=k["csr"], last=1)),
-    "read-ssp": (0, "rd", lambda w, k: numbers(17, **k)),
-    "mop-r": (0, "n rd rs1", lambda w, k: numbers(18, k["n"], k["rd"], k["rs1"])),
-    "mop-rr": (0, "n rd rs1 rs2", lambda w, k: numbers(19, k["n"], k["rd"], k["rs1"], k["rs2"])),
+        17, choice(w[0], CSR_IMMEDIATES, "CSR operation"), k["rd"], k["number"], first=k["csr"])),
+    "read-ssp": (0, "rd", lambda w, k: numbers(18, **k)),
+    "push": (0, "rs2", lambda w, k: numbers(19, **k)),
+    "pop": (0, "rs1", lambda w, k: numbers(20, **k)),
+    "swap": (1, "rd rs1 rs2 aq rl", lambda w, k: numbers(
+        21, choice(w[0], SWAPS, "width"), k["rd"], k["rs1"], k["rs2"], first=k["aq"], second=k["rl"])),
+    "mop-r": (0, "n rd rs1", lambda w, k: numbers(22, k["n"], k["rd"], k["rs1"])),
+    "mop-rr": (0, "n rd rs1 rs2", lambda w, k: numbers(23, k["n"], k["rd"], k["rs1"], k["rs2"])),
 }
 
 
@@ -134,7 +139,7 @@ class Word:
         return self.code + flip + (f" ({self.remark})" if self.remark else "")
 
     def case(self, word):
-        return Case(self.line, f"{word:08x}", hexadecimal(self.numbers), self.text())
+        return Case(self.line, f"{word:08x}", hexadecimal(self.numbers + [word if self.legal else 0]), self.text())
 
 
 def complain(line, what):

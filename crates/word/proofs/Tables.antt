@@ -37,3 +37,22 @@ checked test n (k ⇒ a ¦ t) h g =
     let (p, q) = both (test k a) (every test t) h in
     one-passes test n k a (look n t) (eqb n k) refl p (checked test n t q g)
 checked test n (otherwise a) h g = g
+
+-- P of each row, where the key is that row's, and of what stands for the other keys
+abbrev pub EachRow : {A : Type 0} → (A → Type 0) → ℕ → Table A → Type 0
+EachRow P n (k ⇒ a ¦ t) = (n ≡ k → P a) × EachRow P n t
+EachRow P n (otherwise a) = P a
+
+infixr 2 _and_
+-- what is said of a row, and what is said of the rows below it
+pub _and_ : {A B : Type 0} → A → B → A × B
+_and_ a b = (a, b)
+
+one-row : {A : Type 0} (P : A → Type 0) (n k : ℕ) (a b : A) (same : Bool) → eqb n k ≡ same → (n ≡ k → P a) → P b → P (pick same a b)
+one-row P n k a b true e f g = f (eqb-true n k e)
+one-row P n k a b false e f g = g
+
+-- what holds of every row holds of what is looked up
+pub looked : {A : Type 0} (P : A → Type 0) (n : ℕ) (t : Table A) → EachRow P n t → P (look n t)
+looked P n (k ⇒ a ¦ t) r = one-row P n k a (look n t) (eqb n k) refl (r .0) (looked P n t (r .1))
+looked P n (otherwise a) r = r

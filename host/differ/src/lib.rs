@@ -6,12 +6,14 @@
 //! For request A3 `multiply` and `operands` make instructions at their corners, and `added` counts these.
 //! For request A13 `hidden` makes pairs of memories that differ where a user's program may not reach, `twins` looks whether
 //! anything of it shows, and `seen` counts what the pairs were. For request A7 `hex` holds the readers of Intel HEX against each other.
+//! For request A1 `eights` sends words and instructions as eight numbers through a read and a write.
 
 pub mod added;
 pub mod again;
 pub mod case;
 pub mod csr;
 pub mod decoder;
+pub mod eights;
 pub mod hex;
 pub mod hidden;
 pub mod instruction;

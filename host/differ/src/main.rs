@@ -2,6 +2,8 @@
 
 use differ::case::Case;
 use differ::decoder;
+use differ::eights;
+use differ::eights::soak::Eights;
 use differ::hex;
 use differ::hex::check::Check;
 use differ::hex::make::{Made, Sort};
@@ -32,12 +34,14 @@ const TEST: Amounts = Amounts {
     pairs: Some(100_000),
 };
 const TEST_TEXTS: Option<u64> = Some(100_000);
+const TEST_EIGHTS: Option<u64> = Some(2_000_000);
 
 /// Cases between two looks at the clock.
 const STEPS_AT_ONCE: u64 = 5_000;
 const RUNS_AT_ONCE: u64 = 100;
 const PAIRS_AT_ONCE: u64 = 500;
 const TEXTS_AT_ONCE: u64 = 1_000;
+const EIGHTS_AT_ONCE: u64 = 10_000;
 
 fn main() -> ExitCode {
     let args: Vec<String> = std::env::args().skip(1).collect();
@@ -63,6 +67,10 @@ fn main() -> ExitCode {
         }
         Command::AgainText { seed, number } => again_text(seed, number),
         Command::TextFile { file, memory } => text_file(&file, memory),
+        Command::Eights { count, seed } => {
+            let eights = eights(seed, count);
+            status(eights.failures.is_empty())
+        }
         Command::Decoder => decoder(),
     }
 }
@@ -114,14 +122,17 @@ impl Progress {
 fn test() -> ExitCode {
     let soak = soak(TEST_SEED, TEST);
     let texts = texts(TEST_SEED, TEST_TEXTS);
+    let eights = eights(TEST_SEED, TEST_EIGHTS);
     let mut complaints = soak.mix.complaints(true);
     complaints.extend(soak.seen.complaints());
     complaints.extend(texts.seen.complaints());
+    complaints.extend(eights.complaints());
     // A test that ended early because of differences has seen little: only these are said then.
-    if !complaints.is_empty() && !soak.done() && !texts.done() {
+    if !complaints.is_empty() && !soak.done() && !texts.done() && !eights.done() {
         say!("differ: FAILED: {}", complaints.join("; "));
     }
-    status(complaints.is_empty() && soak.failures.is_empty() && texts.failures.is_empty())
+    let failures = soak.failures.len() + texts.failures.len() + eights.failures.len();
+    status(complaints.is_empty() && failures == 0)
 }
 
 /// The cases of one kind: how many are made, how many are wanted, and how long they took.
@@ -225,6 +236,33 @@ fn texts(seed: u64, wanted: Option<u64>) -> Texts<Proved, Second> {
         progress.start.elapsed().as_secs_f64()
     );
     texts
+}
+
+/// Eights one after the other. Prints what they were and the verdict; a failure has its numbers in its line.
+fn eights(seed: u64, wanted: Option<u64>) -> Eights<Proved> {
+    let mut eights = Eights::new(Proved, seed);
+    let mut progress = Progress::new();
+    let mut printed = 0;
+    while !eights.done() && wanted.is_none_or(|wanted| eights.made < wanted) {
+        let end = eights.made + EIGHTS_AT_ONCE;
+        while !eights.done() && eights.made < wanted.unwrap_or(end).min(end) {
+            eights.next();
+        }
+        for failure in &eights.failures[printed..] {
+            progress.clear();
+            say!("DIFFERENCE: {failure}");
+        }
+        printed = eights.failures.len();
+        progress.show(|| format!("{} eights, {printed} differences", eights.made));
+    }
+    progress.clear();
+    say!("{}", eights.text().trim_end());
+    say!(
+        "differ: {printed} differences in {} eights of seed {seed}, {:.1} s",
+        eights.made,
+        progress.start.elapsed().as_secs_f64()
+    );
+    eights
 }
 
 /// Where failing cases are written: target/differ of the repository that this was built in.
@@ -348,8 +386,15 @@ fn decoder() -> ExitCode {
     let done = AtomicU64::new(0);
     let mut progress = Progress::new();
     let verdicts = std::thread::scope(|scope| {
-        let work = scope
-            .spawn(|| decoder::compare(sporhulma::family, second::family, decoder::WORDS, &done));
+        let work = scope.spawn(|| {
+            decoder::compare(
+                sporhulma::family,
+                second::family,
+                |word, family| eights::round(&Proved, word, family),
+                decoder::WORDS,
+                &done,
+            )
+        });
         while !work.is_finished() {
             let percent = done.load(Relaxed) * 100 / decoder::WORDS;
             progress.show(|| format!("{percent} % of 2^32 words"));
@@ -364,11 +409,15 @@ fn decoder() -> ExitCode {
     for (word, left, right) in &verdicts.first {
         say!("DIFFERENCE: {word:#010x}: proved {left}, second {right}");
     }
+    for (_, wrong) in &verdicts.first_lost {
+        say!("LOST: {wrong}");
+    }
     say!(
-        "differ: {} differences in {} words, {:.1} s",
+        "differ: {} differences in {} words, {} of them lost in a read and a write, {:.1} s",
         verdicts.differences,
         decoder::WORDS,
+        verdicts.lost,
         progress.start.elapsed().as_secs_f64()
     );
-    status(verdicts.differences == 0)
+    status(verdicts.differences == 0 && verdicts.lost == 0)
 }

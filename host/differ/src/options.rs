@@ -6,8 +6,8 @@ use crate::text::number;
 pub const HELP: &str = "\
 differ: the proved simulator (left) against the second, independent one (right)
 
-  differ test                 1,000,000 steps, 20,000 runs, 100,000 pairs and 100,000 texts of a fixed seed;
-                              this is what ./test runs
+  differ test                 1,000,000 steps, 20,000 runs, 100,000 pairs, 100,000 texts and 2,000,000 eights of a fixed
+                              seed; this is what ./test runs
   differ soak [--steps N] [--runs N] [--pairs N] [--seed S]
                               any number (default 10,000,000, 200,000 and 1,000,000, seed 1);
                               0 means until stopped, and then no summary is printed
@@ -17,11 +17,13 @@ differ: the proved simulator (left) against the second, independent one (right)
                               texts in Intel HEX (default 1,000,000, seed 1; 0 means until stopped)
   differ hex FILE [--memory BYTES]
                               the text in a file, with so many bytes of memory (default 1,048,576)
+  differ eights [--count N] [--seed S]
+                              instructions as eight numbers (default 10,000,000, seed 1; 0 means until stopped)
   differ again FILE           one case from the file that a failure wrote
   differ again --seed S --case N
                               step N of a seed; --run N, --pair N or --text N in place of --case N: run, pair or
                               text N of a seed
-  differ decoder              the decoder's verdict on all 2^32 words, on all cores
+  differ decoder              the decoder's verdict on all 2^32 words, and each through a read and a write, on all cores
   differ --help               this text
 
 A pair (request A13) is a user's hart and map with two memories that differ in every byte of each frame that no valid
@@ -31,10 +33,14 @@ leave the named frames alike and the other ones as they were. Beside that the tw
 A text (request A7) is good, damaged in one of the ways that the request names, or changed at random; the two readers must
 answer alike and leave the same bytes, and those for which a good or damaged text was made.
 
+An eight (request A1) is an instruction as include/sporhulma.h lays it out, half of them changed in one place: written and read
+it must give the same numbers, exactly where the header's table has them, and else refusal 5 with the word as it was.
+
 A difference is printed with the words and bytes that differ and the command that runs its case again; its case or text is
-written to target/differ/. After 5 differences the command ends.
+written to target/differ/ (an eight's numbers stand in its line). After 5 differences the command ends.
 Exit status: 0 no difference, 1 a difference (for test also: a kind of case or text that was not seen, under 60 % of the
-pairs of three completed steps and more with a load and a store that reached memory, or under 40 % of the texts loaded),
+pairs of three completed steps and more with a load and a store that reached memory, under 40 % of the texts loaded, or
+under 35 % of the eights written or refused),
 2 wrong usage.
 ";
 
@@ -48,6 +54,7 @@ pub enum Command {
     AgainText { seed: u64, number: u64 },
     Texts { count: Option<u64>, seed: u64 },
     TextFile { file: String, memory: usize },
+    Eights { count: Option<u64>, seed: u64 },
     Decoder,
 }
 
@@ -59,7 +66,7 @@ pub struct Amounts {
     pub pairs: Option<u64>,
 }
 
-const COMMANDS: &str = "right is test, soak, pairs, hex, again, decoder or --help";
+const COMMANDS: &str = "right is test, soak, pairs, hex, eights, again, decoder or --help";
 
 /// A text may ask for no more memory than a little over the most that is accepted.
 const MOST_MEMORY: u64 = 0x20_0000;
@@ -75,6 +82,7 @@ pub fn parse(args: &[String]) -> Result<Command, String> {
         ["pairs", ref options @ ..] => pairs(options),
         ["hex", file, ref options @ ..] if !file.starts_with('-') => text_file(file, options),
         ["hex", ref options @ ..] => texts(options),
+        ["eights", ref options @ ..] => eights(options),
         ["again", file] if !file.starts_with('-') => Ok(Command::AgainFile(file.to_string())),
         ["again", ref options @ ..] => again(options),
         [] => Err(format!("no command: {COMMANDS}")),
@@ -140,6 +148,14 @@ fn texts(options: &[&str]) -> Result<Command, String> {
     let [count, seed] = values(options, ["--count", "--seed"])?;
     Ok(Command::Texts {
         count: amount(count, 1_000_000),
+        seed: seed.unwrap_or(1),
+    })
+}
+
+fn eights(options: &[&str]) -> Result<Command, String> {
+    let [count, seed] = values(options, ["--count", "--seed"])?;
+    Ok(Command::Eights {
+        count: amount(count, 10_000_000),
         seed: seed.unwrap_or(1),
     })
 }
@@ -219,6 +235,13 @@ mod tests {
                 seed: 4
             })
         );
+        assert_eq!(
+            parsed("eights --seed 4"),
+            Ok(Command::Eights {
+                count: Some(10_000_000),
+                seed: 4
+            })
+        );
         let file = |memory| {
             Ok(Command::TextFile {
                 file: "a.hex".to_string(),
@@ -271,6 +294,7 @@ mod tests {
             ("soak --cases 5", "'--cases' is no option here"),
             ("pairs --steps 5", "'--steps' is no option here"),
             ("hex --steps 5", "'--steps' is no option here"),
+            ("eights --runs 5", "'--runs' is no option here"),
             ("hex --count", "--count needs a number"),
             ("hex a.hex b.hex", "'b.hex' is no option here"),
             ("hex a.hex --count 1", "'--count' is no option here"),

@@ -32,6 +32,18 @@ pub const REST: [&str; 20] = [
     "mstatus", "medeleg", "mtvec", "menvcfg", "mscratch", "mepc", "mcause", "mtval", "mseccfg",
 ];
 
+/// Indices into an instruction's eight numbers; include/sporhulma.h says what each family has there.
+pub mod number {
+    pub const FAMILY: usize = 0;
+    pub const OPERATION: usize = 1;
+    pub const RD: usize = 2;
+    pub const RS1: usize = 3;
+    pub const RS2: usize = 4;
+    pub const IMMEDIATE: usize = 5;
+    pub const FIRST: usize = 6;
+    pub const SECOND: usize = 7;
+}
+
 /// The physical address of memory's first byte.
 pub const BASE: u64 = 0x8000_0000;
 
@@ -89,6 +101,8 @@ extern "C" {
     fn sporhulma_run(x: *mut u64, rest: *mut u64, mem: *mut u8, mem_len: usize, map: *const u64, map_len: usize, budget: u64, answer: *mut u64) -> u64;
     fn sporhulma_load_hex(mem: *mut u8, mem_len: usize, text: *const u8, text_len: usize, answer: *mut u64) -> u64;
     fn sporhulma_family(word: u32) -> u64;
+    fn sporhulma_read(word: u32, instruction: *mut u64) -> u64;
+    fn sporhulma_write(instruction: *const u64, word: *mut u32) -> u64;
 }
 
 /// One step, which fetches at pc.
@@ -181,4 +195,16 @@ pub fn load_hex(memory: &mut [u8], text: &[u8]) -> Loaded {
 pub fn family(word: u32) -> u64 {
     // SAFETY: it takes a number and gives one.
     unsafe { sporhulma_family(word) }
+}
+
+/// Reads a word: 0 and its instruction's numbers, or refusal 5 and eight zeros.
+pub fn read(word: u32, instruction: &mut [u64; 8]) -> u64 {
+    // SAFETY: as in `step`.
+    unsafe { sporhulma_read(word, instruction.as_mut_ptr()) }
+}
+
+/// Writes an instruction: 0 and its word; or refusal 5 where no word reads as these numbers, and the word as it was.
+pub fn write(instruction: &[u64; 8], word: &mut u32) -> u64 {
+    // SAFETY: as in `step`.
+    unsafe { sporhulma_write(instruction.as_ptr(), word) }
 }

@@ -129,16 +129,15 @@ fn a_refused_text_changes_nothing() {
     }
 }
 
-/// examples/c/step.c by the C compiler, so that the header is read by one.
-#[test]
-fn the_header_serves_c() {
+/// What a program of examples/c prints, built by the C compiler with the header and one of the libraries.
+fn told(name: &str, library: &str) -> String {
     let root = Path::new(env!("CARGO_MANIFEST_DIR")).join("../..");
-    let program = PathBuf::from(env!("CARGO_TARGET_TMPDIR")).join("step");
+    let program = PathBuf::from(env!("CARGO_TARGET_TMPDIR")).join(name);
     let built = c_compiler()
         .args(["-Wall", "-Wextra", "-Werror", "-pedantic", "-std=c11", "-I"])
         .arg(root.join("include"))
-        .arg(root.join("examples/c/step.c"))
-        .arg(root.join("target/staticlib/libsporhulma.a"))
+        .arg(root.join(format!("examples/c/{name}.c")))
+        .arg(root.join(format!("target/staticlib/lib{library}.a")))
         .arg("-o")
         .arg(&program)
         .output()
@@ -149,6 +148,13 @@ fn the_header_serves_c() {
         String::from_utf8_lossy(&built.stderr)
     );
     let ran = started(&program).output().expect("the program starts");
-    let told = "refusal 0, count 1, a0 42, pc 0x80000004\nrefusal 1, count 0, pc 0x80000004\n";
-    assert_eq!(String::from_utf8_lossy(&ran.stdout), told);
+    String::from_utf8_lossy(&ran.stdout).into_owned()
+}
+
+#[test]
+fn the_header_serves_c() {
+    let step = "refusal 0, count 1, a0 42, pc 0x80000004\nrefusal 1, count 0, pc 0x80000004\n";
+    assert_eq!(told("step", "sporhulma"), step);
+    let word = "refusal 0, word 0x80b50063\nrefusal 0, family 5, distance -4096\nrefusal 5, word 0x80b50063\n";
+    assert_eq!(told("word", "scribe"), word);
 }

@@ -1,0 +1,4 @@
+pub mod Format
+pub mod Pack
+pub mod Same
+pub mod Promise
