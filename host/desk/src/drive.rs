@@ -73,7 +73,7 @@ impl<'a> Drive<'a> {
     }
 
     /// Runs to the end in as few calls as possible.
-    pub fn run(mut self, progress: &mut Progress) -> Result<End, Failure> {
+    pub fn run(mut self, progress: &Progress) -> Result<End, Failure> {
         let mut kept = self.state.clone();
         while self.count < self.limits.steps {
             let left = self.limits.steps - self.count;
@@ -96,7 +96,7 @@ impl<'a> Drive<'a> {
                 };
                 return Ok(self.end(stop, Some(before), answer));
             }
-            progress.tick(self.count, self.limits.steps);
+            progress.tick(self.count);
         }
         Ok(self.end(Stop::Steps, None, NOTHING))
     }

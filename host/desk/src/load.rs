@@ -3,16 +3,14 @@
 use crate::failure::Failure;
 use crate::image;
 use crate::intel_hex;
-use crate::options::{Choices, Given};
+use clap::ValueEnum;
 
-#[derive(Clone, Copy, Debug, PartialEq)]
+/// What the image is.
+#[derive(Clone, Copy, Debug, PartialEq, ValueEnum)]
 pub enum Format {
     Raw,
     Hex,
 }
-
-/// What `--format` may be; the number is the place in `Format`.
-const FORMATS: Choices = &[("raw", 0), ("hex", 1)];
 
 /// The file that was loaded.
 pub struct Image {
@@ -24,7 +22,10 @@ pub struct Image {
 
 impl Image {
     pub fn format_name(&self) -> &'static str {
-        FORMATS[self.format as usize].0
+        match self.format {
+            Format::Raw => "raw",
+            Format::Hex => "hex",
+        }
     }
 
     /// What `--pc start` stands for.
@@ -42,14 +43,13 @@ impl Image {
     }
 }
 
-/// The image that the options name, and memory of so many bytes with it.
-pub fn load(given: &Given, length: u64) -> Result<(Image, Vec<u8>), Failure> {
-    let path = given.image("run", "desk run IMAGE [options]")?;
-    let chosen = given.chosen("--format", FORMATS)?;
+/// A file, and memory of so many bytes with what it holds.
+pub fn load(path: &str, chosen: Option<Format>, length: u64) -> Result<(Image, Vec<u8>), Failure> {
     let bytes = image::bytes(path)?;
-    let format = match chosen.map_or(intel_hex::told(&bytes), |chosen| chosen == 1) {
-        true => Format::Hex,
-        false => Format::Raw,
+    let format = match chosen {
+        Some(format) => format,
+        None if intel_hex::told(&bytes) => Format::Hex,
+        None => Format::Raw,
     };
     let mut mem = vec![0; length as usize];
     let start = match format {

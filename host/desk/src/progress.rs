@@ -1,31 +1,33 @@
 //! A line of progress on a terminal, for runs that take longer than a second.
 
-use std::io::{stderr, IsTerminal, Write};
+use indicatif::{ProgressBar, ProgressStyle};
 use std::time::{Duration, Instant};
 
 pub struct Progress {
-    /// When the next line is due; none where nobody watches.
-    due: Option<Instant>,
-    shown: bool,
+    /// Draws on stderr, and only where that is a terminal.
+    bar: ProgressBar,
+    /// When the first line is due.
+    due: Instant,
 }
 
 impl Progress {
-    pub fn start() -> Progress {
-        let watched = stderr().is_terminal();
+    pub fn start(steps: u64) -> Progress {
+        let bar = ProgressBar::new(steps);
+        // A template that indicatif does not take would show in its own form.
+        if let Ok(style) =
+            ProgressStyle::with_template("{human_pos} of {human_len} steps ({percent}%), {per_sec}")
+        {
+            bar.set_style(style);
+        }
         Progress {
-            due: watched.then(|| Instant::now() + Duration::from_secs(1)),
-            shown: false,
+            bar,
+            due: Instant::now() + Duration::from_secs(1),
         }
     }
 
-    pub fn tick(&mut self, count: u64, steps: u64) {
-        let now = Instant::now();
-        if self.due.is_some_and(|due| now >= due) {
-            let percent = u128::from(count) * 100 / u128::from(steps.max(1));
-            // A terminal that is gone is no reason to stop the run.
-            let _ = write!(stderr(), "\r{count} of {steps} steps ({percent}%) ");
-            self.due = Some(now + Duration::from_millis(200));
-            self.shown = true;
+    pub fn tick(&self, count: u64) {
+        if Instant::now() >= self.due {
+            self.bar.set_position(count);
         }
     }
 }
@@ -33,8 +35,6 @@ impl Progress {
 /// Takes the line away, so that what is said at the end stands alone.
 impl Drop for Progress {
     fn drop(&mut self) {
-        if self.shown {
-            let _ = write!(stderr(), "\r\x1b[K");
-        }
+        self.bar.finish_and_clear();
     }
 }

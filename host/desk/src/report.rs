@@ -3,13 +3,14 @@
 use crate::drive::{End, Stop};
 use crate::dump;
 use crate::explain::{cause_name, Rows, Trap};
+use crate::facts::{hex, object, Facts};
 use crate::frames::{Scope, Table};
-use crate::json::Json;
 use crate::map::PageMap;
 use crate::names::mode_name;
 use crate::setup::Job;
 use crate::text;
 use disasm::register;
+use serde_json::Value;
 use sporhulma::{word, Hart, BASE, REST};
 
 /// What is said at the end.
@@ -65,58 +66,58 @@ impl Report {
     }
 
     /// The object that docs/DESK.md describes.
-    pub fn json(&self, end: &End, job: &Job) -> Json {
+    pub fn json(&self, end: &End, job: &Job) -> Value {
         let stopped = match end.stop {
             Stop::Steps => "steps",
             Stop::Trap => "trap",
             Stop::Stuck => "stuck",
         };
-        let headline = Json::text(self.headline.as_str());
+        let headline = Value::from(self.headline.as_str());
         let rows = self
             .rows
             .iter()
-            .map(|(label, text)| Json::text(format!("{label}: {text}")));
+            .map(|(label, text)| Value::from(format!("{label}: {text}")));
         let dumps = job
             .dumps
             .iter()
             .map(|&(address, length)| dumped(end, address, length));
         let mut members = vec![
-            ("status", Json::Number(self.status.into())),
-            ("stopped", Json::text(stopped)),
-            ("count", Json::Number(end.count)),
-            ("followed", Json::Number(end.followed)),
-            ("trap", self.trap.as_ref().map_or(Json::Null, trap_json)),
+            ("status", Value::from(self.status)),
+            ("stopped", Value::from(stopped)),
+            ("count", Value::from(end.count)),
+            ("followed", Value::from(end.followed)),
+            ("trap", self.trap.as_ref().map_or(Value::Null, trap_json)),
             (
                 "words",
-                Json::List([headline].into_iter().chain(rows).collect()),
+                Value::Array([headline].into_iter().chain(rows).collect()),
             ),
         ];
-        let start = job.image.start.map_or(Json::Null, Json::hex);
+        let start = job.image.start.map_or(Value::Null, hex);
         let image = [
-            ("format", Json::text(job.image.format_name())),
+            ("format", Value::from(job.image.format_name())),
             ("start", start),
         ];
-        members.push(("image", Json::object(image)));
+        members.push(("image", object(image)));
         members.extend(hart_json(&end.after.hart));
-        members.push(("dump", Json::List(dumps.collect())));
+        members.push(("dump", Value::Array(dumps.collect())));
         if job.frames {
             let scope = Scope::of(&job.state.hart, end.followed);
             members.push(("frames", frames(job).json_in_run(&scope)));
         }
-        Json::object(members)
+        object(members)
     }
 }
 
-fn hart_json(hart: &Hart) -> Vec<(&'static str, Json)> {
+fn hart_json(hart: &Hart) -> Facts {
     let rest = &hart.rest;
-    let registers = (0..32).map(|n| (register(n), Json::hex(hart.x[n])));
-    let csrs = (word::SSP..REST.len()).map(|index| (REST[index], Json::hex(rest[index])));
+    let registers = (0..32).map(|n| (register(n), hex(hart.x[n])));
+    let csrs = (word::SSP..REST.len()).map(|index| (REST[index], hex(rest[index])));
     vec![
-        ("pc", Json::hex(rest[word::PC])),
-        ("mode", Json::text(mode_name(rest[word::MODE]))),
-        ("elp", Json::Number(rest[word::ELP])),
-        ("registers", Json::object(registers)),
-        ("csrs", Json::object(csrs)),
+        ("pc", hex(rest[word::PC])),
+        ("mode", Value::from(mode_name(rest[word::MODE]))),
+        ("elp", Value::from(rest[word::ELP])),
+        ("registers", object(registers)),
+        ("csrs", object(csrs)),
     ]
 }
 
@@ -173,24 +174,24 @@ fn notes(end: &End, map: &PageMap, translated: bool) -> impl Iterator<Item = Str
     unused.into_iter().chain(still)
 }
 
-fn trap_json(trap: &Trap) -> Json {
+fn trap_json(trap: &Trap) -> Value {
     let facts = trap.facts.iter().map(|(key, value)| (*key, value.clone()));
-    Json::object([
-        ("cause", Json::Number(trap.cause)),
-        ("name", Json::text(cause_name(trap.cause))),
-        ("tval", Json::hex(trap.tval)),
-        ("pc", Json::hex(trap.pc)),
-        ("from", Json::text(mode_name(trap.from))),
-        ("to", Json::text(mode_name(trap.to))),
-        ("facts", Json::object(facts)),
+    object([
+        ("cause", Value::from(trap.cause)),
+        ("name", Value::from(cause_name(trap.cause))),
+        ("tval", hex(trap.tval)),
+        ("pc", hex(trap.pc)),
+        ("from", Value::from(mode_name(trap.from))),
+        ("to", Value::from(mode_name(trap.to))),
+        ("facts", object(facts)),
     ])
 }
 
-fn dumped(end: &End, address: u64, length: u64) -> Json {
+fn dumped(end: &End, address: u64, length: u64) -> Value {
     let start = (address - BASE) as usize;
     let bytes = &end.after.mem[start..start + length as usize];
-    let hex: String = bytes.iter().map(|byte| format!("{byte:02x}")).collect();
-    Json::object([("address", Json::hex(address)), ("bytes", Json::text(hex))])
+    let bytes: String = bytes.iter().map(|byte| format!("{byte:02x}")).collect();
+    object([("address", hex(address)), ("bytes", Value::from(bytes))])
 }
 
 /// What the map names, by the hart at the start of the run.

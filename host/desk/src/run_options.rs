@@ -1,92 +1,154 @@
-//! The options of `desk run`, with what the help says about each. `desk frames` takes some of them as they are.
+//! The options of `desk run` and of its start, with what the help says about each. `desk frames` takes some of them as they are.
 
-use crate::options::Spec;
+use crate::load::Format;
+use crate::number::{number, size};
+use crate::refusal;
+use clap::builder::{NonEmptyStringValueParser, PossibleValuesParser, TypedValueParser};
+use clap::{Args, ValueEnum};
 
-const fn with(
-    name: &'static str,
-    value: &'static str,
-    example: &'static str,
-    about: &'static str,
-) -> Spec {
-    Spec {
-        name,
-        value,
-        example,
-        many: false,
-        about,
-    }
-}
-
-const fn many(
-    name: &'static str,
-    value: &'static str,
-    example: &'static str,
-    about: &'static str,
-) -> Spec {
-    Spec {
-        name,
-        value,
-        example,
-        many: true,
-        about,
-    }
-}
-
-const fn switch(name: &'static str, about: &'static str) -> Spec {
-    Spec {
-        name,
-        value: "",
-        example: "",
-        many: false,
-        about,
-    }
-}
-
-pub const MEMORY: Spec = with(
-    "--memory",
-    "SIZE",
-    "64K",
-    "bytes of memory, a multiple of 4096: 65536, 0x10000, 64K (default and most: 1M)",
-);
-pub const MAP: Spec = with(
-    "--map",
-    "FILE",
-    "pages.map",
-    "the page map, a line a page: 0x10000 -> 0x80001000 r-x u (see docs/DESK.md)",
-);
-pub const SHADOW_STACK: Spec = switch(
-    "--shadow-stack",
-    "shadow stack on in S and U: sets SSE in menvcfg and senvcfg",
-);
-pub const JSON: Spec = switch(
-    "--json",
-    "say all of this as one JSON object (see docs/DESK.md)",
-);
+pub const MEMORY: &str =
+    "bytes of memory, a multiple of 4096: 65536, 0x10000, 64K (default and most: 1M)";
+pub const MAP: &str = "the page map, a line a page: 0x10000 -> 0x80001000 r-x u (see docs/DESK.md)";
+pub const SHADOW_STACK: &str = "shadow stack on in S and U: sets SSE in menvcfg and senvcfg";
+pub const JSON: &str = "say all of this as one JSON object (see docs/DESK.md)";
 
 /// The options of `desk run`, in the help's order.
+#[derive(Args)]
 #[rustfmt::skip]
-pub const OPTIONS: &[Spec] = &[
-    MEMORY,
-    with("--format", "raw|hex", "hex", "what the image is (default: told by its content)"),
-    MAP,
-    with("--mode", "M|S|U", "U", "the mode at the start (default M)"),
-    with("--pc", "ADDRESS|start", "0x80000000", "the program counter at the start (default 0x80000000); start: the start address that an Intel HEX file gives"),
-    with("--ssp", "ADDRESS", "0x30000", "the shadow stack pointer at the start (default 0)"),
-    with("--elp", "0|1", "1", "whether a landing pad is expected at the start (default 0)"),
-    many("--x", "REGISTER=VALUE", "a0=5", "a register by its name or as x10; VALUE may be negative; any number of times"),
-    many("--csr", "NAME=VALUE", "mtvec=0x80000100", "a CSR's whole word; in mstatus, UXL and SXL may be left 0; any number of times"),
-    switch("--sv39", "translate by the map in S and U: sets satp.MODE to 8"),
-    SHADOW_STACK,
-    switch("--landing-pads", "landing pads on in all modes: sets LPE in menvcfg and senvcfg, MLPE in mseccfg"),
-    with("--masking", "0|7|16", "7", "masked bits in all modes: sets PMM in senvcfg, menvcfg and mseccfg"),
-    with("--steps", "N", "1000", "the most steps, any number (default 1000000)"),
-    with("--follow", "N|all", "all", "go on after the first N traps, or after all (default 0: stop at the first trap)"),
-    with("--expect", "TRAP", "ecall", "exit status 0 exactly if it stops at this trap: ecall, ebreak or a cause's number"),
-    switch("--trace", "write each step: address, word, text, what changed"),
-    with("--trace-to", "FILE", "trace.txt", "write the trace there and not to the output"),
-    switch("--registers", "show all registers and CSRs at the end"),
-    many("--dump", "ADDRESS:LENGTH", "0x80001000:64", "show bytes of memory at the end (physical address); any number of times"),
-    with("--save", "FILE", "memory.bin", "write all of memory there at the end"),
-    switch("--frames", "say which frames of memory a user program can name by the map (as desk frames does)"),
-    JSON,
-];
+pub struct RunOptions {
+    #[arg(value_name = "IMAGE", hide = true, value_parser = some_text())]
+    pub image: String,
+    #[arg(long, value_name = "SIZE", default_value = "1M", hide_default_value = true, value_parser = memory, help = MEMORY)]
+    pub memory: u64,
+    #[arg(long, value_name = "raw|hex", hide_possible_values = true, ignore_case = true, help = "what the image is (default: told by its content)")]
+    pub format: Option<Format>,
+    #[arg(long, value_name = "FILE", value_parser = some_text(), help = MAP)]
+    pub map: Option<String>,
+    #[command(flatten)]
+    pub start: StartOptions,
+    #[arg(long, value_name = "N", default_value = "1000000", hide_default_value = true, allow_negative_numbers = true, value_parser = number, help = "the most steps, any number (default 1000000)")]
+    pub steps: u64,
+    #[arg(long, value_name = "N|all", default_value = "0", hide_default_value = true, value_parser = follow, help = "go on after the first N traps, or after all (default 0: stop at the first trap)")]
+    pub follow: u64,
+    #[arg(long, value_name = "TRAP", value_parser = expect, help = "exit status 0 exactly if it stops at this trap: ecall, ebreak or a cause's number")]
+    pub expect: Option<Expect>,
+    #[arg(long, help = "write each step: address, word, text, what changed")]
+    pub trace: bool,
+    #[arg(long, value_name = "FILE", value_parser = some_text(), help = "write the trace there and not to the output")]
+    pub trace_to: Option<String>,
+    #[arg(long, help = "show all registers and CSRs at the end")]
+    pub registers: bool,
+    #[arg(long, value_name = "ADDRESS:LENGTH", value_parser = some_text(), help = "show bytes of memory at the end (physical address); any number of times")]
+    pub dump: Vec<String>,
+    #[arg(long, value_name = "FILE", value_parser = some_text(), help = "write all of memory there at the end")]
+    pub save: Option<String>,
+    #[arg(long, help = "say which frames of memory a user program can name by the map (as desk frames does)")]
+    pub frames: bool,
+    #[arg(long, help = JSON)]
+    pub json: bool,
+}
+
+/// How the hart is set at the start.
+#[derive(Args, Default)]
+#[rustfmt::skip]
+pub struct StartOptions {
+    #[arg(long, value_name = "M|S|U", hide_possible_values = true, ignore_case = true, help = "the mode at the start (default M)")]
+    pub mode: Option<Mode>,
+    #[arg(long, value_name = "ADDRESS|start", value_parser = pc, help = "the program counter at the start (default 0x80000000); start: the start address that an Intel HEX file gives")]
+    pub pc: Option<Pc>,
+    #[arg(long, value_name = "ADDRESS", value_parser = number, help = "the shadow stack pointer at the start (default 0)")]
+    pub ssp: Option<u64>,
+    #[arg(long, value_name = "0|1", hide_possible_values = true, value_parser = one_of(&[("0", 0), ("1", 1)]), help = "whether a landing pad is expected at the start (default 0)")]
+    pub elp: Option<u64>,
+    #[arg(long, value_name = "REGISTER=VALUE", value_parser = some_text(), help = "a register by its name or as x10; VALUE may be negative; any number of times")]
+    pub x: Vec<String>,
+    #[arg(long, value_name = "NAME=VALUE", value_parser = some_text(), help = "a CSR's whole word; in mstatus, UXL and SXL may be left 0; any number of times")]
+    pub csr: Vec<String>,
+    #[arg(long, help = "translate by the map in S and U: sets satp.MODE to 8")]
+    pub sv39: bool,
+    #[arg(long, help = SHADOW_STACK)]
+    pub shadow_stack: bool,
+    #[arg(long, help = "landing pads on in all modes: sets LPE in menvcfg and senvcfg, MLPE in mseccfg")]
+    pub landing_pads: bool,
+    /// As the PMM that stands for so many bits.
+    #[arg(long, value_name = "0|7|16", hide_possible_values = true, value_parser = one_of(&[("0", 0), ("7", 2), ("16", 3)]), help = "masked bits in all modes: sets PMM in senvcfg, menvcfg and mseccfg")]
+    pub masking: Option<u64>,
+}
+
+/// A mode by its letter, as its number.
+#[derive(Clone, Copy, ValueEnum)]
+#[value(rename_all = "UPPER")]
+pub enum Mode {
+    M = 3,
+    S = 1,
+    U = 0,
+}
+
+/// Where the hart starts.
+#[derive(Clone, Copy)]
+pub enum Pc {
+    /// Where the image says.
+    Start,
+    At(u64),
+}
+
+/// A trap that the user waits for.
+#[derive(Clone)]
+pub struct Expect {
+    pub text: String,
+    pub causes: Vec<u64>,
+}
+
+/// What may be any text but an empty one.
+pub fn some_text() -> NonEmptyStringValueParser {
+    NonEmptyStringValueParser::new()
+}
+
+/// A value that must be one of a few, as the number that it stands for.
+fn one_of(choices: &'static [(&'static str, u64)]) -> impl TypedValueParser<Value = u64> {
+    let names = choices.iter().map(|choice| choice.0);
+    PossibleValuesParser::new(names).map(|name| {
+        let chosen = choices.iter().find(|choice| choice.0 == name);
+        chosen.map_or(0, |choice| choice.1)
+    })
+}
+
+/// How many bytes memory has.
+pub fn memory(text: &str) -> Result<u64, String> {
+    let length = size(text)?;
+    match refusal::memory(length) {
+        Some(wrong) => Err(wrong),
+        None => Ok(length),
+    }
+}
+
+fn pc(text: &str) -> Result<Pc, String> {
+    match text {
+        "start" => Ok(Pc::Start),
+        _ => number(text).map(Pc::At),
+    }
+}
+
+fn follow(text: &str) -> Result<u64, String> {
+    match text {
+        "all" => Ok(u64::MAX),
+        _ => number(text).map_err(|_| format!("'{text}' is neither a number of traps nor 'all'")),
+    }
+}
+
+fn expect(text: &str) -> Result<Expect, String> {
+    let causes = match (text, number(text)) {
+        ("ecall", _) => vec![8, 9, 11],
+        ("ebreak", _) => vec![3],
+        (_, Ok(cause)) if cause < 64 => vec![cause],
+        _ => {
+            return Err(format!(
+                "'{text}' is no trap; write ecall, ebreak or a cause below 64"
+            ))
+        }
+    };
+    Ok(Expect {
+        text: text.into(),
+        causes,
+    })
+}

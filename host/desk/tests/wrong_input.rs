@@ -27,9 +27,9 @@ fn commands() {
         ("help rnu", "rnu: the desk has no such command; the commands are run, frames, demo, disasm, hex and help"),
         ("help run demo", "help: 'demo' is not needed; name one command"),
         ("demo now", "demo: 'now' is not needed; write desk demo [--svg FILE]"),
-        ("demo --svg", "--svg: its FILE is missing; write for instance --svg torque.svg"),
+        ("demo --svg", "--svg: its FILE is missing; write --svg FILE"),
         ("run", "run: the image is missing; write desk run IMAGE [options]"),
-        ("run ok.bin user.map", "run: two images, ok.bin and user.map; give one"),
+        ("run ok.bin user.map", "run: 'user.map' is not needed; write desk run IMAGE [options]"),
     ]);
 }
 
@@ -40,9 +40,9 @@ fn options() {
         ("run ok.bin --memroy 64K", "--memroy: 'desk run' has no such option; did you mean --memory?"),
         ("run ok.bin --banana", "--banana: 'desk run' has no such option; 'desk help run' lists them"),
         ("run ok.bin -m", "-m: 'desk run' has no such option; 'desk help run' lists them"),
-        ("run ok.bin --memory", "--memory: its SIZE is missing; write for instance --memory 64K"),
-        ("run ok.bin --memory --trace", "--memory: its SIZE is missing; write for instance --memory 64K"),
-        ("run ok.bin --memory=", "--memory: its SIZE is missing; write for instance --memory 64K"),
+        ("run ok.bin --memory", "--memory: its SIZE is missing; write --memory SIZE"),
+        ("run ok.bin --memory --trace", "--memory: its SIZE is missing; write --memory SIZE"),
+        ("run ok.bin --memory=", "--memory: its SIZE is missing; write --memory SIZE"),
         ("run ok.bin --steps 1 --steps=2", "--steps: it is given twice; give it once"),
         ("run ok.bin --sv39 --sv39", "--sv39: it is given twice; give it once"),
         ("run ok.bin --sv39=1", "--sv39: it takes no value; write it alone"),
@@ -212,11 +212,11 @@ fn frames() {
         desk.file("binary.map", [0xff, 0xfe]);
     };
     refused("frames", prepare, &[
-        ("frames", "frames: the map is missing; write desk frames --map FILE [options]"),
-        ("frames --memory 64K", "frames: the map is missing; write desk frames --map FILE [options]"),
-        ("frames user.map", "frames: 'user.map' is not needed; if it is the map, write desk frames --map user.map"),
+        ("frames", "frames: --map FILE is missing; write desk frames --map FILE [options]"),
+        ("frames --memory 64K", "frames: --map FILE is missing; write desk frames --map FILE [options]"),
+        ("frames user.map", "frames: 'user.map' is not needed; write desk frames --map FILE [options]"),
         ("frames ok.bin --map user.map", "frames: 'ok.bin' is not needed; write desk frames --map FILE [options]"),
-        ("frames --map", "--map: its FILE is missing; write for instance --map pages.map"),
+        ("frames --map", "--map: its FILE is missing; write --map FILE"),
         ("frames --map none.map", "none.map: there is no such file; check the path"),
         ("frames --map binary.map", "binary.map: it is no text (not UTF-8); give a text file"),
         ("frames --map wrong.map", "wrong.map:2: 'rwq' is no flag; use letters of v r w x u g a d, !v !a !d, or shadow"),
@@ -309,12 +309,12 @@ fn hex_written() {
     };
     refused("hex-written", prepare, &[
         ("hex", "hex: the image is missing; write desk hex IMAGE [options]"),
-        ("hex ok.bin user.map", "hex: two images, ok.bin and user.map; give one"),
+        ("hex ok.bin user.map", "hex: 'user.map' is not needed; write desk hex IMAGE [options]"),
         ("hex none.bin", "none.bin: there is no such file; check the path"),
         ("hex empty.bin", "empty.bin: the image is empty; give a file with at least one instruction"),
         ("hex huge.bin", "huge.bin: the image has more than 1048576 bytes (1M), the largest memory"),
         ("hex good.hex", "good.hex: it is Intel HEX already; give a raw image"),
-        ("hex ok.bin -o", "-o: its FILE is missing; write for instance -o program.hex"),
+        ("hex ok.bin -o", "-o: its FILE is missing; write -o FILE"),
         ("hex ok.bin -o ok.bin", "-o: 'ok.bin' is the image, which would be lost; give another file"),
         ("hex ok.bin -o no/new.hex", "-o: 'no/new.hex' cannot be written (No such file or directory (os error 2)); give a file in a folder where you may write"),
         ("hex ok.bin -o new.hex --length 0", "--length: 0 is not a length of a line's data; try 1 to 255, for instance 32"),

@@ -1,9 +1,10 @@
 //! An access that a rule of "From address to byte" refused.
 
 use super::{Rows, Verdict};
-use crate::json::Json;
+use crate::facts::hex;
 use crate::names::{mode_name, M};
 use crate::place::Path;
+use serde_json::Value;
 
 /// The trap of a refused access; none if it was granted.
 pub fn verdict(path: &Path) -> Option<Verdict> {
@@ -16,17 +17,17 @@ pub fn verdict(path: &Path) -> Option<Verdict> {
     rows.push(("refused", why));
     rows.extend(path.entry.map(|entry| entry.row()));
     let facts = vec![
-        ("rule", Json::Number(refused.rule.into())),
-        ("reason", Json::text(refused.why.as_str())),
-        ("access", Json::text(path.access.kind.name())),
-        ("width", Json::Number(path.access.width)),
-        ("address", Json::hex(path.access.address)),
-        ("transformed", Json::hex(path.transformed)),
-        ("effective_mode", Json::text(mode_name(path.mode))),
+        ("rule", Value::from(refused.rule)),
+        ("reason", Value::from(refused.why.as_str())),
+        ("access", Value::from(path.access.kind.name())),
+        ("width", Value::from(path.access.width)),
+        ("address", hex(path.access.address)),
+        ("transformed", hex(path.transformed)),
+        ("effective_mode", Value::from(mode_name(path.mode))),
         (
             "entry",
             path.entry
-                .map_or(Json::Null, |entry| Json::text(entry.text())),
+                .map_or(Value::Null, |entry| Value::from(entry.text())),
         ),
     ];
     Some(Verdict {

@@ -2,11 +2,12 @@
 
 use super::{family, Verdict};
 use crate::bits::{LPE, MLPE, SSE};
-use crate::json::Json;
+use crate::facts::hex;
 use crate::names::{mode_name, M, S, U};
 use crate::place::Path;
 use crate::state::State;
 use disasm::{register, Word};
+use serde_json::Value;
 use sporhulma::{word, Hart};
 
 /// The active shadow enable of the current mode.
@@ -54,8 +55,8 @@ pub fn landing_pad(before: &State, found: u32) -> Option<Verdict> {
         ),
     ];
     let facts = vec![
-        ("expected_label", Json::hex(label.into())),
-        ("found", Json::text(format!("{found:#010x}"))),
+        ("expected_label", hex(label.into())),
+        ("found", Value::from(format!("{found:#010x}"))),
     ];
     Some(Verdict {
         cause: 18,
@@ -88,11 +89,11 @@ pub fn mismatch(before: &State, path: &Path, physical: u64, source: usize) -> Op
     ];
     rows.extend(path.entry.map(|entry| entry.row()));
     let facts = vec![
-        ("register", Json::text(name)),
-        ("used", Json::hex(used)),
-        ("pushed", Json::hex(pushed)),
-        ("virtual", Json::hex(at)),
-        ("physical", Json::hex(physical)),
+        ("register", Value::from(name)),
+        ("used", hex(used)),
+        ("pushed", hex(pushed)),
+        ("virtual", hex(at)),
+        ("physical", hex(physical)),
     ];
     Some(Verdict {
         cause: 18,
@@ -115,7 +116,7 @@ pub fn target(before: &State, instruction: u32, family: u64) -> Option<Verdict> 
         _ => return None,
     };
     let why = format!("rule 3: the jump's target {target:#x} is not a multiple of 4");
-    let facts = vec![("rule", Json::Number(3)), ("target", Json::hex(target))];
+    let facts = vec![("rule", Value::from(3)), ("target", hex(target))];
     let verdict = Verdict {
         cause: 0,
         tval: target,
@@ -152,7 +153,7 @@ pub fn ecall(before: &State) -> Verdict {
         "a7 = {:#x}, a0 = {:#x}, a1 = {:#x}, a2 = {:#x}",
         x[17], x[10], x[11], x[12]
     );
-    let facts = vec![("a7", Json::hex(x[17])), ("a0", Json::hex(x[10]))];
+    let facts = vec![("a7", hex(x[17])), ("a0", hex(x[10]))];
     Verdict {
         cause,
         tval: 0,

@@ -1,10 +1,10 @@
 //! Why an instruction is illegal.
 
 use super::{family, flow, Verdict};
-use crate::json::Json;
 use crate::names::{mode_name, M, U};
 use disasm::Word;
 use formats::extensions::absent;
+use serde_json::Value;
 use sporhulma::{word, Hart};
 
 /// The address of the CSR ssp, which has a rule of its own.
@@ -12,8 +12,8 @@ const SSP: u16 = 0x011;
 
 pub fn verdict(word: u32, why: String) -> Verdict {
     let facts = vec![
-        ("word", Json::text(format!("{word:#010x}"))),
-        ("reason", Json::text(why.as_str())),
+        ("word", Value::from(format!("{word:#010x}"))),
+        ("reason", Value::from(why.as_str())),
     ];
     Verdict {
         cause: 2,

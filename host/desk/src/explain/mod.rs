@@ -12,7 +12,7 @@ mod illegal;
 
 pub use flow::shadow_stack_on;
 
-use crate::json::Json;
+use crate::facts::Facts;
 use crate::map::PageMap;
 use crate::names::{mode_name, M};
 use crate::place::{Access, Kind};
@@ -47,7 +47,7 @@ struct Verdict {
     cause: u64,
     tval: u64,
     rows: Rows,
-    facts: Vec<(&'static str, Json)>,
+    facts: Facts,
 }
 
 /// A trap as the hart gave it, explained.
@@ -60,7 +60,7 @@ pub struct Trap {
     /// The mode that it was taken to.
     pub to: u64,
     pub rows: Rows,
-    pub facts: Vec<(&'static str, Json)>,
+    pub facts: Facts,
 }
 
 impl Trap {
