@@ -1,5 +1,8 @@
 //! A line of progress on a terminal, for runs that take longer than a second.
 
+use crate::failure::Failure;
+use crate::interrupt::Interrupt;
+use crate::state::State;
 use indicatif::{ProgressBar, ProgressStyle};
 use std::time::{Duration, Instant};
 
@@ -8,27 +11,43 @@ pub struct Progress {
     bar: ProgressBar,
     /// When the first line is due.
     due: Instant,
+    interrupt: Interrupt,
 }
 
 impl Progress {
-    pub fn start(steps: u64) -> Progress {
-        let bar = ProgressBar::new(steps);
+    /// For a run of so many steps; none where its end is not known.
+    pub fn start(steps: Option<u64>) -> Result<Progress, Failure> {
+        let (bar, form) = match steps {
+            Some(steps) => (
+                ProgressBar::new(steps),
+                "{human_pos} of {human_len} steps ({percent}%), {per_sec}, at {msg}",
+            ),
+            None => (
+                ProgressBar::new_spinner(),
+                "{human_pos} steps, {per_sec}, at {msg} (Ctrl-C ends it with a report)",
+            ),
+        };
         // A template that indicatif does not take would show in its own form.
-        if let Ok(style) =
-            ProgressStyle::with_template("{human_pos} of {human_len} steps ({percent}%), {per_sec}")
-        {
+        if let Ok(style) = ProgressStyle::with_template(form) {
             bar.set_style(style);
         }
-        Progress {
+        Ok(Progress {
             bar,
             due: Instant::now() + Duration::from_secs(1),
+            interrupt: Interrupt::new()?,
+        })
+    }
+
+    pub fn tick(&self, count: u64, state: &State) {
+        if !self.bar.is_hidden() && Instant::now() >= self.due {
+            self.bar.set_message(format!("{:#x}", state.pc()));
+            self.bar.set_position(count);
         }
     }
 
-    pub fn tick(&self, count: u64) {
-        if Instant::now() >= self.due {
-            self.bar.set_position(count);
-        }
+    /// Whether the user wants it to end.
+    pub fn interrupted(&self) -> bool {
+        self.interrupt.pressed()
     }
 }
 

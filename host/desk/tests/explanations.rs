@@ -95,6 +95,8 @@ Stopped by a trap in step 1: cause 7 (store access fault), tval 0x30000, from U 
   refused   by rule 7 of \"From address to byte\": an ordinary store to a shadow page
   entry     0x30000 -> 0x80002000 v-w-u-ad (line 2 of the map)
   handler   0x0 in M: no word can be fetched there
+  note      the shadow stack is on, and no push or pop-check was met: the program may be built
+            without them (docs/C.md)
 ",
     );
 }
@@ -119,6 +121,7 @@ Stopped by a trap in step 1: cause 13 (load page fault), tval 0x5400000000020008
   masking   off for this access: mstatus has MPRV and MXR both set (masked, it would be at 0x20008)
   refused   by rule 5 of \"From address to byte\": bits 63:39 of the address do not equal bit 38
   handler   0x0 in M: no word can be fetched there
+  note      masking is on, and changed the address of no access
 ",
     );
     says(
@@ -135,6 +138,9 @@ Stopped by a trap in step 1: cause 7 (store access fault), tval 0x54000000800000
   refused   by rule 9 of \"From address to byte\": physical 0x5400000080000008 lies outside memory
             (0x80000000 to 0x80003fff)
   handler   0x0 in M: no word can be fetched there
+  note      the map was not in use: no access was made in S or U with satp on (--sv39 turns it on,
+            --mode U starts in U)
+  note      masking is on, and changed the address of no access
 ",
     );
 }
@@ -147,7 +153,7 @@ fn a_tag_that_is_masked_beside_request_a2() {
         &[LD_A0_A1],
         &monitor("0x20000", "0x5400000000020008"),
         "\
-Stopped after 1 step, all that --steps allows.
+The program had not ended after 1 step, all that --steps allows.
   next      0x80000004 in M: 00000000  .word 0x00000000
 ",
     );
@@ -163,6 +169,8 @@ Stopped by a trap in step 1: cause 5 (load access fault), tval 0x20008, from M t
   refused   by rule 9 of \"From address to byte\": physical 0x20008 lies outside memory (0x80000000 to
             0x80003fff)
   handler   0x0 in M: no word can be fetched there
+  note      the map was not in use: no access was made in S or U with satp on (--sv39 turns it on,
+            --mode U starts in U)
 ",
     );
     let options = format!("{USER} --masking 7 --csr mstatus=0xa0000 --x a1=0x5400000000030000");
@@ -318,7 +326,7 @@ fn steps_that_ran_out() {
         &[NOP, NOP],
         "--memory 4K --steps 1",
         "\
-Stopped after 1 step, all that --steps allows.
+The program had not ended after 1 step, all that --steps allows.
   next      0x80000004 in M: 00000013  nop
 ",
     );
@@ -327,10 +335,11 @@ Stopped after 1 step, all that --steps allows.
         &[J_SELF],
         "--memory 4K --steps 5 --map user.map",
         "\
-Stopped after 5 steps, all that --steps allows.
+The program had not ended after 5 steps, all that --steps allows.
   next      0x80000000 in M: 0000006f  j 0x80000000
-  note      the map was not in use: satp is Bare at the start and at the end (--sv39 turns it on)
-  note      the last step changed nothing: the program waits here for ever
+  hint      the last step changed nothing: the program waits here for ever
+  note      the map was not in use: no access was made in S or U with satp on (--sv39 turns it on,
+            --mode U starts in U)
 ",
     );
 }
@@ -350,6 +359,7 @@ Stuck in step 3, 2 traps before it followed: this trap leaves the hart exactly a
   refused   by rule 9 of \"From address to byte\": physical 0x0 lies outside memory (0x80000000 to
             0x80000fff)
   handler   0x0 in M: no word can be fetched there
+  hint      pc is 0: a return or a call by an address that was never set, or a trap with tvec 0
 ",
     );
 }

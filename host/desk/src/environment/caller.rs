@@ -39,10 +39,6 @@ impl<'a> Caller<'a> {
         }
     }
 
-    pub fn mode(&self) -> u64 {
-        self.hart.rest[word::MODE]
-    }
-
     /// Where the call stands.
     pub fn pc(&self) -> u64 {
         self.hart.rest[word::PC]
@@ -74,7 +70,10 @@ impl<'a> Caller<'a> {
     /// Eight bytes as a number.
     pub fn word(&self, address: u64) -> Result<u64, Fault> {
         let bytes = self.read(address, 8)?;
-        Ok(bytes.iter().rev().fold(0, |sum, &byte| sum << 8 | u64::from(byte)))
+        Ok(bytes
+            .iter()
+            .rev()
+            .fold(0, |sum, &byte| sum << 8 | u64::from(byte)))
     }
 
     /// Whether stores of the caller could write all of these bytes.
@@ -95,7 +94,11 @@ impl<'a> Caller<'a> {
     }
 
     fn physical(&self, kind: Kind, width: u64, address: u64) -> Result<u64, Fault> {
-        let access = Access { kind, width, address };
+        let access = Access {
+            kind,
+            width,
+            address,
+        };
         let path = follow(&self.hart, self.state.mem.len() as u64, self.map, access);
         path.end.map_err(|_| Fault)
     }

@@ -14,6 +14,7 @@ mod tests;
 pub use caller::Write;
 pub use console::Output;
 
+use crate::facts::object;
 use crate::failure::Failure;
 use crate::map::PageMap;
 use crate::names::{mode_name, M, S, U};
@@ -21,6 +22,7 @@ use crate::state::State;
 use caller::Caller;
 use console::Console;
 use semihosting::Semihosting;
+use serde_json::Value;
 use sporhulma::word;
 use std::collections::BTreeMap;
 use syscalls::Syscalls;
@@ -58,8 +60,8 @@ pub enum Served {
     No,
     /// The program goes on; these bytes were written.
     Returned(Vec<Write>),
-    /// The program has ended with this value.
-    Exit(u64),
+    /// The program has ended with this value, C's int.
+    Exit(i32),
 }
 
 pub struct Environment {
@@ -90,7 +92,12 @@ impl Environment {
     }
 
     /// Serves the call that has just trapped with `cause`, if it is one.
-    pub fn serve(&mut self, state: &mut State, map: &PageMap, cause: u64) -> Result<Served, Failure> {
+    pub fn serve(
+        &mut self,
+        state: &mut State,
+        map: &PageMap,
+        cause: u64,
+    ) -> Result<Served, Failure> {
         let mut caller = Caller::new(state, map);
         let Some(call) = self.asked(&caller, cause) else {
             return Ok(Served::No);
@@ -101,7 +108,7 @@ impl Environment {
         };
         let writes = caller.writes;
         match reply {
-            Reply::Exit(value) => return Ok(Served::Exit(value)),
+            Reply::Exit(value) => return Ok(Served::Exit(value as i32)),
             Reply::Unknown(number) => *self.unserved.entry((call, number)).or_default() += 1,
             Reply::Answer => self.served += 1,
         }
@@ -130,6 +137,21 @@ impl Environment {
         !self.console.line_begins
     }
 
+    /// The same for programs.
+    pub fn json(&self) -> Value {
+        let unserved = self.unserved.iter().map(|((call, number), count)| {
+            object([
+                ("call", Value::from(called(*call, *number))),
+                ("number", Value::from(*number)),
+                ("count", Value::from(*count)),
+            ])
+        });
+        object([
+            ("served", Value::from(self.served)),
+            ("unserved", Value::Array(unserved.collect())),
+        ])
+    }
+
     /// What the report says about the calls; nothing where none was made.
     pub fn row(&self) -> Option<String> {
         let unserved: u64 = self.unserved.values().sum();
@@ -137,13 +159,20 @@ impl Environment {
             return None;
         }
         let listed = self.unserved.iter().map(|((call, number), count)| {
-            let times = if *count == 1 { String::new() } else { format!(" ({count} times)") };
+            let times = if *count == 1 {
+                String::new()
+            } else {
+                format!(" ({count} times)")
+            };
             format!("{}{times}", called(*call, *number))
         });
         let listed: Vec<String> = listed.collect();
         let not = match listed.as_slice() {
             [] => String::new(),
-            _ => format!("; not served, and answered with an error: {}", listed.join(", ")),
+            _ => format!(
+                "; not served, and answered with an error: {}",
+                listed.join(", ")
+            ),
         };
         let from = mode_name(self.mode);
         Some(match self.services.syscalls {

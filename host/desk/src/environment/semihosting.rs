@@ -188,8 +188,12 @@ impl Semihosting {
         let file = self.file(handle).copied();
         let bytes = caller.read(buffer, length);
         match file {
-            Some(File::Output) => console.write(&bytes.map_err(|Fault| not_written(BAD_ADDRESS))?)?,
-            Some(File::Error) => console.write_error(&bytes.map_err(|Fault| not_written(BAD_ADDRESS))?)?,
+            Some(File::Output) => {
+                console.write(&bytes.map_err(|Fault| not_written(BAD_ADDRESS))?)?
+            }
+            Some(File::Error) => {
+                console.write_error(&bytes.map_err(|Fault| not_written(BAD_ADDRESS))?)?
+            }
             _ => return Err(not_written(BAD_HANDLE)),
         }
         Ok(0)

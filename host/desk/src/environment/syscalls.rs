@@ -100,7 +100,14 @@ impl Syscalls {
         handle < 3 && self.open[handle as usize]
     }
 
-    fn write(&self, caller: &Caller, console: &mut Console, to: u64, buffer: u64, length: u64) -> Result<Answer, Failure> {
+    fn write(
+        &self,
+        caller: &Caller,
+        console: &mut Console,
+        to: u64,
+        buffer: u64,
+        length: u64,
+    ) -> Result<Answer, Failure> {
         if to == 0 || !self.is_open(to) {
             return Ok(Err(BAD_HANDLE));
         }
@@ -114,7 +121,14 @@ impl Syscalls {
         Ok(Ok(length))
     }
 
-    fn read(&self, caller: &mut Caller, console: &mut Console, from: u64, buffer: u64, length: u64) -> Result<Answer, Failure> {
+    fn read(
+        &self,
+        caller: &mut Caller,
+        console: &mut Console,
+        from: u64,
+        buffer: u64,
+        length: u64,
+    ) -> Result<Answer, Failure> {
         if from != 0 || !self.is_open(from) {
             return Ok(Err(BAD_HANDLE));
         }
@@ -139,7 +153,9 @@ impl Syscalls {
         if !self.is_open(handle) {
             return Err(BAD_HANDLE);
         }
-        caller.write(buffer, &console_stat()).map_err(|Fault| BAD_ADDRESS)?;
+        caller
+            .write(buffer, &console_stat())
+            .map_err(|Fault| BAD_ADDRESS)?;
         Ok(0)
     }
 

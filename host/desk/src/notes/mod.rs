@@ -31,7 +31,10 @@ pub fn notes(watch: &Watch) -> Vec<String> {
 fn shadow(watch: &Watch) -> Vec<String> {
     let met = |(mode, count): (u64, &Count)| {
         let (mode, why) = match mode {
-            3 => ("M", "where the hart has no shadow stack (a program in U with Sv39 has it)"),
+            3 => (
+                "M",
+                "where the hart has no shadow stack (a program in U with Sv39 has it)",
+            ),
             mode => (mode_name(mode), "while menvcfg.SSE or senvcfg.SSE was 0"),
         };
         let what = counted(count);

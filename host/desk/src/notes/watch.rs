@@ -82,16 +82,16 @@ impl Watch {
         if !self.looks(&state.hart) {
             return None;
         }
+        let hart = &state.hart;
         let mut ahead = Ahead {
             steps: 1,
+            mapped: sv39(hart) && state.mode() != M,
             ..Ahead::default()
         };
         let Some((index, word)) = fetched(state, map) else {
             return Some(ahead);
         };
-        let hart = &state.hart;
         ahead.pad = hart.rest[word::ELP] == 1 && pads_on(hart);
-        ahead.mapped = sv39(hart) && state.mode() != M;
         let class = class(word);
         match class {
             Class::Shadow if shadow_stack_on(hart) => ahead.active = true,
@@ -124,7 +124,10 @@ impl Watch {
         see(&mut self.map, ahead.mapped);
         see(&mut self.masking, ahead.masked && (!refused || faulted));
         let mismatch = refused && answer.cause == 18 && !ahead.pad;
-        see(&mut self.shadow, ahead.active && (!refused || faulted || mismatch));
+        see(
+            &mut self.shadow,
+            ahead.active && (!refused || faulted || mismatch),
+        );
         if let (Some((mode, push)), false, true) = (ahead.idle, refused, self.shadow != Seen::Off) {
             let count = &mut self.idle[mode as usize];
             match push {
@@ -144,7 +147,8 @@ impl Watch {
         };
         let pads = self.pads == Seen::NotYet && !(user && !pads_on(hart));
         let map = self.map == Seen::NotYet && !(user && !sv39(hart));
-        let masking = self.masking == Seen::NotYet && !(user && hart.rest[word::SENVCFG] & PMM == 0);
+        let masking =
+            self.masking == Seen::NotYet && !(user && hart.rest[word::SENVCFG] & PMM == 0);
         shadow || pads || map || masking
     }
 
