@@ -62,6 +62,13 @@ pub struct Step<'a> {
     pub written: Range<usize>,
 }
 
+/// What a trace shows.
+pub enum Shown<'a> {
+    Step(Step<'a>),
+    /// A call was served, and the program goes on from here.
+    Served(&'a State),
+}
+
 /// A run on its way.
 pub struct Drive<'a> {
     state: State,
@@ -142,7 +149,7 @@ impl<'a> Drive<'a> {
     pub fn trace(
         mut self,
         progress: &Progress,
-        show: &mut dyn FnMut(&Step) -> Result<(), Failure>,
+        show: &mut dyn FnMut(Shown) -> Result<(), Failure>,
     ) -> Result<End, Failure> {
         let mut before = self.state.clone();
         while self.left() > 0 {
@@ -155,16 +162,17 @@ impl<'a> Drive<'a> {
             let written = explain::written(&before, self.map).filter(|_| !answer.trapped);
             let written = written.unwrap_or(0..0);
             let (number, after) = (self.count, &self.state);
-            show(&Step {
+            show(Shown::Step(Step {
                 number,
                 before: &before,
                 after,
                 answer,
                 written: written.clone(),
-            })?;
+            }))?;
             match self.next(&before.hart, answer)? {
                 Next::On => (),
                 Next::Served(writes) => {
+                    show(Shown::Served(&self.state))?;
                     for (at, bytes) in writes {
                         before.mem[at..at + bytes.len()].copy_from_slice(&bytes);
                     }

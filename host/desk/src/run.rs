@@ -1,6 +1,6 @@
 //! `desk run`: runs an image and says where and why it stopped.
 
-use crate::drive::{Drive, End, Step};
+use crate::drive::{Drive, End, Shown};
 use crate::environment::{Environment, Output as Console};
 use crate::facts;
 use crate::failure::Failure;
@@ -44,9 +44,9 @@ fn drive(job: &Job, trace_to: Option<Output>, out: &mut dyn Write) -> Result<End
     let progress = Progress::start(job.limits.steps)?;
     match (job.trace, trace_to) {
         (false, _) => drive.run(&progress),
-        (true, None) => drive.trace(&progress, &mut |step: &Step| show(step, job, out)),
+        (true, None) => drive.trace(&progress, &mut |shown| show(shown, job, out)),
         (true, Some(output)) => {
-            output.replace(|file| drive.trace(&progress, &mut |step: &Step| show(step, job, file)))
+            output.replace(|file| drive.trace(&progress, &mut |shown| show(shown, job, file)))
         }
     }
 }
@@ -62,6 +62,10 @@ fn environment(job: &Job, traced_apart: bool) -> Environment {
     Environment::new(job.services, job.state.mode(), None, console)
 }
 
-fn show(step: &Step, job: &Job, to: &mut dyn Write) -> Result<(), Failure> {
-    Ok(to.write_all(trace::line(step, &job.map).as_bytes())?)
+fn show(shown: Shown, job: &Job, to: &mut dyn Write) -> Result<(), Failure> {
+    let line = match shown {
+        Shown::Step(step) => trace::line(&step, &job.map),
+        Shown::Served(state) => trace::served(state),
+    };
+    Ok(to.write_all(line.as_bytes())?)
 }

@@ -4,6 +4,7 @@ use crate::drive::Step;
 use crate::explain::cause_name;
 use crate::map::PageMap;
 use crate::names::mode_name;
+use crate::state::State;
 use crate::text::wrapped;
 use disasm::register;
 use sporhulma::{word, BASE, REST};
@@ -25,6 +26,12 @@ pub fn line(step: &Step, map: &PageMap) -> String {
         .trim_end()
         .to_string()
         + "\n"
+}
+
+/// The line behind a call that was served.
+pub fn served(state: &State) -> String {
+    let (a0, pc, mode) = (state.hart.x[10], state.pc(), mode_name(state.mode()));
+    format!("        served: a0={a0:#x}, on at {pc:#x} in {mode}\n")
 }
 
 /// What a step changed: pc if it did not just go on, registers, the other fields; and what it wrote to memory.

@@ -8,8 +8,6 @@ mod console;
 mod errno;
 mod semihosting;
 mod syscalls;
-#[cfg(test)]
-mod tests;
 
 pub use caller::Write;
 pub use console::Output;
@@ -17,7 +15,7 @@ pub use console::Output;
 use crate::facts::object;
 use crate::failure::Failure;
 use crate::map::PageMap;
-use crate::names::{mode_name, M, S, U};
+use crate::names::{M, S, U};
 use crate::state::State;
 use caller::Caller;
 use console::Console;
@@ -174,11 +172,7 @@ impl Environment {
                 listed.join(", ")
             ),
         };
-        let from = mode_name(self.mode);
-        Some(match self.services.syscalls {
-            true => format!("{} served, ECALLs from {from} among them{not}", self.served),
-            false => format!("{} served{not}", self.served),
-        })
+        Some(format!("{} served{not}", self.served))
     }
 }
 

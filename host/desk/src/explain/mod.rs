@@ -5,7 +5,7 @@
 //! the explanation says so and gives no reason.
 
 #[cfg(test)]
-mod agreement;
+pub mod agreement;
 mod fault;
 mod flow;
 mod illegal;

@@ -1,6 +1,8 @@
 //! Notes: what was switched on and did nothing in a run. Nothing of this may be silent: a program that a switch does not protect ends
 //! as well as one that it does.
 
+#[cfg(test)]
+mod agreement;
 mod watch;
 
 pub use watch::Watch;

@@ -37,7 +37,7 @@ impl Seen {
     }
 }
 
-#[derive(Clone, Debug)]
+#[derive(Clone, Debug, PartialEq)]
 pub struct Watch {
     /// A push or pop-check that was active.
     pub shadow: Seen,
