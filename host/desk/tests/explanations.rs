@@ -289,20 +289,23 @@ fn illegal_instructions() {
     let desk = Desk::new("illegal");
     for (word, options, why) in [
         (0x0000_0000, "", "no instruction of this hart has this word; it is empty memory: the program ran into a\n            place where no code is"),
-        (0x0000_4501, "", "no instruction of this hart has this word; its two low bits are not 11, as in a 16-bit\n            instruction (C)"),
+        (0x0000_4501, "", "no instruction of this hart has this word; it looks like C.LI (C, which the hart lacks:\n            compile with -march=rv64im)"),
         (0x40b5_7533, "", "no instruction of this hart has this word; it looks like ANDN (Zbb)"),
         (0x0805_053b, "", "no instruction of this hart has this word; it looks like ADD.UW (Zba)"),
         (0x0ab5_1533, "", "no instruction of this hart has this word; it looks like CLMUL (Zbc)"),
         (0x2835_1513, "", "no instruction of this hart has this word; it looks like BSETI (Zbs)"),
         (0x6035_1513, "", "no instruction of this hart has this word"),                      // one after cpop a0,a0
         (0x02b5_153b, "", "no instruction of this hart has this word"),                      // there is no mulhw
-        (0x00b5_252f, "", "no instruction of this hart has this word; it looks like an atomic memory operation (A)"),
-        (0x0005_3507, "", "no instruction of this hart has this word; it looks like floating point (F or D)"),
+        (0x00b5_252f, "", "no instruction of this hart has this word; it looks like AMOADD.W (A, which the hart lacks:\n            compile with -march=rv64im)"),
+        (0x0005_3507, "", "no instruction of this hart has this word; it looks like FLD (D, which the hart lacks:\n            compile with -march=rv64im)"),
         (0x0000_100f, "", "no instruction of this hart has this word; it looks like FENCE.I"),
         (0x1050_0073, "", "no instruction of this hart has this word; it is WFI"),
         (0x1200_0073, "", "no instruction of this hart has this word; it looks like SFENCE.VMA"),
         (0xffff_ffff, "", "no instruction of this hart has this word"),
-        (0xf140_2573, "", "the hart has no CSR 0xf14"),                                     // csrr a0,mhartid
+        (0x7c00_2573, "", "the hart has no CSR 0x7c0"),
+        (0x3b10_2573, "", "the hart has no CSR 0x3b1 (pmpaddr1)"),
+        (0xb1f0_2573, "", "the hart has no CSR 0xb1f (mhpmcounter31)"),
+        (0xf140_2573, "", "the hart has no CSR 0xf14 (mhartid)"),                                     // csrr a0,mhartid
         (0x3000_2573, "--mode S", "CSR mstatus needs mode M, and the hart is in S"),         // csrr a0,mstatus
         (0x0110_2573, "--mode S", "CSR ssp in S needs menvcfg.SSE, which is 0"),             // csrr a0,ssp
         (0x0110_2573, "--mode U --csr menvcfg=8", "CSR ssp in U needs senvcfg.SSE, which is 0"),
@@ -362,4 +365,56 @@ Stuck in step 3, 2 traps before it followed: this trap leaves the hart exactly a
   hint      pc is 0: a return or a call by an address that was never set, or a trap with tvec 0
 ",
     );
+}
+
+/// Slips that are easily made, with what would mend them.
+#[test]
+fn hints() {
+    let desk = Desk::new("hints");
+    let sd_sp = 0xfe11_3c23; // sd ra,-8(sp)
+    for (words, options, hint) in [
+        (
+            vec![SSPUSH_RA],
+            format!("{USER} --shadow-stack"),
+            "ssp is 0: no shadow stack was set up; --ssp ADDRESS gives the end of its pages",
+        ),
+        (
+            vec![sd_sp],
+            format!("{USER} --steps 9"),
+            "sp was 0 at the start: no stack was set up; --x sp=ADDRESS gives its end",
+        ),
+        (
+            vec![sd_sp],
+            "--memory 4K".to_string(),
+            "sp was 0 at the start: no stack was set up; --x sp=ADDRESS gives its end",
+        ),
+        (
+            vec![NOP],
+            "--memory 4K --pc 0x10000".to_string(),
+            "the run began at 0x10000, outside memory (0x80000000 to 0x80000fff); --pc ADDRESS says\n            where the program starts",
+        ),
+        (
+            vec![JR_A0],
+            "--memory 4K --x a0=0x90000000".to_string(),
+            "the program jumped to 0x90000000, outside memory (0x80000000 to 0x80000fff)",
+        ),
+        (
+            vec![JR_A0],
+            "--memory 4K".to_string(),
+            "pc is 0: a return or a call by an address that was never set, or a trap with tvec 0",
+        ),
+    ] {
+        desk.image("p.bin", &words);
+        let said = desk.run(&format!("run p.bin {options}")).out;
+        assert!(said.contains(&format!("\n  hint      {hint}\n")), "{options}: {said}");
+    }
+    // None where the pointers are set and the fault has another reason.
+    desk.image("p.bin", &[sd_sp]);
+    let said = desk.run(&format!("run p.bin {USER} --x sp=0x10000")).out;
+    assert!(!said.contains("hint"), "{said}");
+    desk.image("p.bin", &[SSPUSH_RA]);
+    let said = desk
+        .run(&format!("run p.bin {USER} --shadow-stack --ssp 0x21000"))
+        .out;
+    assert!(!said.contains("hint"), "{said}");
 }

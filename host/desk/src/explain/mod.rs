@@ -6,8 +6,10 @@
 
 #[cfg(test)]
 pub mod agreement;
+mod csrs;
 mod fault;
 mod flow;
+mod foreign;
 mod illegal;
 
 pub use flow::{pads_on, shadow_stack_on};
