@@ -8,10 +8,11 @@ use crate::frames::{Scope, Table};
 use crate::map::PageMap;
 use crate::names::mode_name;
 use crate::setup::Job;
+use crate::symbols::Symbols;
 use crate::text;
 use disasm::register;
 use serde_json::Value;
-use sporhulma::{word, Hart, BASE, REST};
+use sporhulma::{word, BASE, REST};
 
 /// What is said at the end.
 pub struct Report {
@@ -27,7 +28,8 @@ impl Report {
         let (map, expect) = (&job.map, job.expect.as_ref());
         let trap = match (end.stop, &end.before, end.cause) {
             (Stop::Trap | Stop::Stuck, Some(before), Some(cause)) => {
-                Some(Trap::explain(before, map, &end.after.hart, cause))
+                let hart = &end.after.hart;
+                Some(Trap::explain(before, map, &job.symbols, hart, cause))
             }
             _ => None,
         };
@@ -35,7 +37,7 @@ impl Report {
             .as_ref()
             .map_or_else(Vec::new, |trap| trap.rows.clone());
         let next = if trap.is_some() { "handler" } else { "next" };
-        rows.push((next, end.after.next_text(map)));
+        rows.push((next, end.after.next_text(map, &job.symbols)));
         rows.extend(start(job).map(|start| ("start", start)));
         let translated = job.state.hart.rest[word::SATP] != 0;
         rows.extend(notes(end, map, translated).map(|note| ("note", note)));
@@ -98,7 +100,7 @@ impl Report {
             ("start", start),
         ];
         members.push(("image", object(image)));
-        members.extend(hart_json(&end.after.hart));
+        members.extend(hart_json(end, &job.symbols));
         members.push(("dump", Value::Array(dumps.collect())));
         if job.frames {
             let scope = Scope::of(&job.state.hart, end.followed);
@@ -108,17 +110,20 @@ impl Report {
     }
 }
 
-fn hart_json(hart: &Hart) -> Facts {
+fn hart_json(end: &End, symbols: &Symbols) -> Facts {
+    let hart = &end.after.hart;
     let rest = &hart.rest;
     let registers = (0..32).map(|n| (register(n), hex(hart.x[n])));
     let csrs = (word::SSP..REST.len()).map(|index| (REST[index], hex(rest[index])));
-    vec![
-        ("pc", hex(rest[word::PC])),
+    let mut members = vec![("pc", hex(rest[word::PC]))];
+    members.extend(symbols.facts(rest[word::PC], end.after.space()));
+    members.extend([
         ("mode", Value::from(mode_name(rest[word::MODE]))),
         ("elp", Value::from(rest[word::ELP])),
         ("registers", object(registers)),
         ("csrs", object(csrs)),
-    ]
+    ]);
+    members
 }
 
 fn headline(end: &End, trap: Option<&Trap>) -> String {
@@ -176,15 +181,19 @@ fn notes(end: &End, map: &PageMap, translated: bool) -> impl Iterator<Item = Str
 
 fn trap_json(trap: &Trap) -> Value {
     let facts = trap.facts.iter().map(|(key, value)| (*key, value.clone()));
-    object([
+    let mut members = vec![
         ("cause", Value::from(trap.cause)),
         ("name", Value::from(cause_name(trap.cause))),
         ("tval", hex(trap.tval)),
         ("pc", hex(trap.pc)),
+    ];
+    members.extend(trap.place.iter().cloned());
+    members.extend([
         ("from", Value::from(mode_name(trap.from))),
         ("to", Value::from(mode_name(trap.to))),
         ("facts", object(facts)),
-    ])
+    ]);
+    object(members)
 }
 
 fn dumped(end: &End, address: u64, length: u64) -> Value {

@@ -8,7 +8,7 @@ use crate::progress::Progress;
 use crate::report::{tables, Report};
 use crate::run_options::RunOptions;
 use crate::setup::Job;
-use crate::trace;
+use crate::trace::Trace;
 use std::io::Write;
 
 /// Runs what the options ask for; the answer is the exit status.
@@ -31,18 +31,18 @@ pub fn run(options: &RunOptions, out: &mut dyn Write) -> Result<u8, Failure> {
 fn drive(job: &Job, trace_to: Option<Output>, out: &mut dyn Write) -> Result<End, Failure> {
     let drive = Drive::start(job.state.clone(), &job.map, job.limits)?;
     let progress = Progress::start(job.limits.steps);
+    let mut trace = Trace::new(&job.map, &job.symbols);
+    let mut show = |step: &Step, to: &mut dyn Write| -> Result<(), Failure> {
+        Ok(to.write_all(trace.lines(step).as_bytes())?)
+    };
     match (job.trace, trace_to) {
         (false, _) => drive.run(&progress),
-        (true, None) => drive.trace(&mut |step: &Step| show(step, job, out)),
+        (true, None) => drive.trace(&mut |step: &Step| show(step, out)),
         (true, Some(output)) => output.replace(|file| {
             drive.trace(&mut |step: &Step| {
                 progress.tick(step.number);
-                show(step, job, file)
+                show(step, file)
             })
         }),
     }
-}
-
-fn show(step: &Step, job: &Job, to: &mut dyn Write) -> Result<(), Failure> {
-    Ok(to.write_all(trace::line(step, &job.map).as_bytes())?)
 }
