@@ -38,7 +38,7 @@ pub const OVERVIEW: &str =
 
 /// A line about each command.
 pub const RUN_ABOUT: &str =
-    "run a raw image or an Intel HEX file on the proved hart and say where and why it stopped";
+    "run an ELF file, Intel HEX or a raw image on the proved hart: where it stopped, and why";
 pub const FRAMES_ABOUT: &str =
     "say which frames of memory a user program can name by a page map, and which not";
 pub const DEMO_ABOUT: &str =
@@ -53,10 +53,11 @@ Exit status: 0 all went as asked, 1 the desk itself failed (for instance a full 
   at a trap, or not at the trap that --expect names. docs/DESK.md has all of it.";
 
 pub const RUN: &str = "\
-A raw image is placed at the start of memory, physical 0x80000000, and an Intel HEX file where its
-records say, by physical address. Which it is is told by its content: a raw image does not start
-with a colon and hex pairs. The hart starts in M at pc 0x80000000 with all registers and CSRs 0, and
-stops at the first trap or when its steps are spent.
+What the image is is told by its content. An ELF file for RV64 is placed by its segments' physical
+addresses, an Intel HEX file where its records say, and a raw image at the start of memory, physical
+0x80000000. The hart starts in M with all registers and CSRs 0, at an ELF file's entry point or else
+at pc 0x80000000, and stops at the first trap or when its steps are spent. Addresses are told by
+name and line of source where an ELF file has them.
 
 Numbers are written as 4096, 0x1000, 0b1000 or 1_000_000. The switches act on top of --csr.
 A hart in user mode under Sv39 with its shadow stack, traced:

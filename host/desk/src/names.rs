@@ -45,7 +45,7 @@ pub fn csr_index(name: &str) -> Result<usize, String> {
 }
 
 /// The name that is nearest to what was written, if one is near enough to be meant.
-fn nearest<'a>(written: &str, names: impl Iterator<Item = &'a str>) -> Option<&'a str> {
+pub fn nearest<'a>(written: &str, names: impl Iterator<Item = &'a str>) -> Option<&'a str> {
     let likeness = |name: &str| strsim::jaro(written, name);
     let near = names.max_by(|one, other| likeness(one).total_cmp(&likeness(other)))?;
     (likeness(near) > 0.8).then_some(near)

@@ -3,20 +3,22 @@
 use crate::failure::Failure;
 use crate::interrupt::Interrupt;
 use crate::state::State;
+use crate::symbols::Symbols;
 use indicatif::{ProgressBar, ProgressStyle};
 use std::time::{Duration, Instant};
 
-pub struct Progress {
+pub struct Progress<'a> {
     /// Draws on stderr, and only where that is a terminal.
     bar: ProgressBar,
     /// When the first line is due.
     due: Instant,
     interrupt: Interrupt,
+    symbols: &'a Symbols,
 }
 
-impl Progress {
+impl<'a> Progress<'a> {
     /// For a run of so many steps; none where its end is not known.
-    pub fn start(steps: Option<u64>) -> Result<Progress, Failure> {
+    pub fn start(steps: Option<u64>, symbols: &'a Symbols) -> Result<Progress<'a>, Failure> {
         let (bar, form) = match steps {
             Some(steps) => (
                 ProgressBar::new(steps),
@@ -35,12 +37,14 @@ impl Progress {
             bar,
             due: Instant::now() + Duration::from_secs(1),
             interrupt: Interrupt::new()?,
+            symbols,
         })
     }
 
     pub fn tick(&self, count: u64, state: &State) {
         if !self.bar.is_hidden() && Instant::now() >= self.due {
-            self.bar.set_message(format!("{:#x}", state.pc()));
+            let place = self.symbols.shown(state.pc(), state.space());
+            self.bar.set_message(place);
             self.bar.set_position(count);
         }
     }
@@ -52,7 +56,7 @@ impl Progress {
 }
 
 /// Takes the line away, so that what is said at the end stands alone.
-impl Drop for Progress {
+impl Drop for Progress<'_> {
     fn drop(&mut self) {
         self.bar.finish_and_clear();
     }

@@ -10,10 +10,11 @@ use crate::hints;
 use crate::names::mode_name;
 use crate::notes;
 use crate::setup::Job;
+use crate::symbols::Symbols;
 use crate::text;
 use disasm::register;
 use serde_json::Value;
-use sporhulma::{word, Hart, BASE, REST};
+use sporhulma::{word, BASE, REST};
 
 /// What is said at the end.
 pub struct Report {
@@ -30,7 +31,8 @@ impl Report {
         let (map, expect) = (&job.map, job.expect.as_ref());
         let trap = match (end.stop, &end.before, end.cause) {
             (Stop::Trap | Stop::Stuck, Some(before), Some(cause)) => {
-                Some(Trap::explain(before, map, &end.after.hart, cause))
+                let hart = &end.after.hart;
+                Some(Trap::explain(before, map, &job.symbols, hart, cause))
             }
             _ => None,
         };
@@ -38,9 +40,9 @@ impl Report {
             .as_ref()
             .map_or_else(Vec::new, |trap| trap.rows.clone());
         rows.push(match (end.stop, &end.before) {
-            (Stop::Exit(_), Some(before)) => ("at", before.next_text(map)),
-            (Stop::Trap | Stop::Stuck, _) => ("handler", end.after.next_text(map)),
-            _ => ("next", end.after.next_text(map)),
+            (Stop::Exit(_), Some(before)) => ("at", before.next_text(map, &job.symbols)),
+            (Stop::Trap | Stop::Stuck, _) => ("handler", end.after.next_text(map, &job.symbols)),
+            _ => ("next", end.after.next_text(map, &job.symbols)),
         });
         rows.extend(start(job).map(|start| ("start", start)));
         let hints = hints::hints(end, trap.as_ref(), &job.state.hart, map);
@@ -115,7 +117,7 @@ impl Report {
         members.push(("exit", exit));
         members.push(("calls", end.environment.json()));
         members.push(("notes", Value::from(self.notes.clone())));
-        members.extend(hart_json(&end.after.hart));
+        members.extend(hart_json(end, &job.symbols));
         members.push(("dump", Value::Array(dumps.collect())));
         if job.frames {
             let scope = Scope::of(&job.state.hart, end.followed);
@@ -125,17 +127,20 @@ impl Report {
     }
 }
 
-fn hart_json(hart: &Hart) -> Facts {
+fn hart_json(end: &End, symbols: &Symbols) -> Facts {
+    let hart = &end.after.hart;
     let rest = &hart.rest;
     let registers = (0..32).map(|n| (register(n), hex(hart.x[n])));
     let csrs = (word::SSP..REST.len()).map(|index| (REST[index], hex(rest[index])));
-    vec![
-        ("pc", hex(rest[word::PC])),
+    let mut members = vec![("pc", hex(rest[word::PC]))];
+    members.extend(symbols.facts(rest[word::PC], end.after.space()));
+    members.extend([
         ("mode", Value::from(mode_name(rest[word::MODE]))),
         ("elp", Value::from(rest[word::ELP])),
         ("registers", object(registers)),
         ("csrs", object(csrs)),
-    ]
+    ]);
+    members
 }
 
 /// The start address that the image gives, and whether the hart began there.
@@ -153,15 +158,19 @@ fn start(job: &Job) -> Option<String> {
 
 fn trap_json(trap: &Trap) -> Value {
     let facts = trap.facts.iter().map(|(key, value)| (*key, value.clone()));
-    object([
+    let mut members = vec![
         ("cause", Value::from(trap.cause)),
         ("name", Value::from(cause_name(trap.cause))),
         ("tval", hex(trap.tval)),
         ("pc", hex(trap.pc)),
+    ];
+    members.extend(trap.place.iter().cloned());
+    members.extend([
         ("from", Value::from(mode_name(trap.from))),
         ("to", Value::from(mode_name(trap.to))),
         ("facts", object(facts)),
-    ])
+    ]);
+    object(members)
 }
 
 fn dumped(end: &End, address: u64, length: u64) -> Value {

@@ -9,7 +9,7 @@ use crate::progress::Progress;
 use crate::report::{tables, Report};
 use crate::run_options::RunOptions;
 use crate::setup::Job;
-use crate::trace;
+use crate::trace::{served, Trace};
 use std::io::{stderr, Write};
 
 /// Runs what the options ask for; the answer is the exit status.
@@ -41,12 +41,20 @@ pub fn run(options: &RunOptions, out: &mut dyn Write) -> Result<u8, Failure> {
 fn drive(job: &Job, trace_to: Option<Output>, out: &mut dyn Write) -> Result<End, Failure> {
     let environment = environment(job, trace_to.is_some());
     let drive = Drive::start(job.state.clone(), &job.map, job.limits, environment)?;
-    let progress = Progress::start(job.limits.steps)?;
+    let progress = Progress::start(job.limits.steps, &job.symbols)?;
+    let mut trace = Trace::new(&job.map, &job.symbols);
+    let mut show = |shown: Shown, to: &mut dyn Write| -> Result<(), Failure> {
+        let lines = match shown {
+            Shown::Step(step) => trace.lines(&step),
+            Shown::Served(state) => served(state, &job.symbols),
+        };
+        Ok(to.write_all(lines.as_bytes())?)
+    };
     match (job.trace, trace_to) {
         (false, _) => drive.run(&progress),
-        (true, None) => drive.trace(&progress, &mut |shown| show(shown, job, out)),
+        (true, None) => drive.trace(&progress, &mut |shown| show(shown, out)),
         (true, Some(output)) => {
-            output.replace(|file| drive.trace(&progress, &mut |shown| show(shown, job, file)))
+            output.replace(|file| drive.trace(&progress, &mut |shown| show(shown, file)))
         }
     }
 }
@@ -59,13 +67,5 @@ fn environment(job: &Job, traced_apart: bool) -> Environment {
     } else {
         Console::Stdout
     };
-    Environment::new(job.services, job.state.mode(), None, console)
-}
-
-fn show(shown: Shown, job: &Job, to: &mut dyn Write) -> Result<(), Failure> {
-    let line = match shown {
-        Shown::Step(step) => trace::line(&step, &job.map),
-        Shown::Served(state) => trace::served(state),
-    };
-    Ok(to.write_all(line.as_bytes())?)
+    Environment::new(job.services, job.state.mode(), job.symbols.end, console)
 }

@@ -20,8 +20,10 @@ pub struct RunOptions {
     pub image: String,
     #[arg(long, value_name = "SIZE", default_value = "1M", hide_default_value = true, value_parser = memory, help = MEMORY)]
     pub memory: u64,
-    #[arg(long, value_name = "raw|hex", hide_possible_values = true, ignore_case = true, help = "what the image is (default: told by its content)")]
+    #[arg(long, value_name = "raw|hex|elf", hide_possible_values = true, ignore_case = true, help = "what the image is (default: told by its content)")]
     pub format: Option<Format>,
+    #[arg(long, value_name = "FILE.elf", value_parser = some_text(), help = "an ELF file whose symbols and lines name addresses, beside a raw image or Intel HEX")]
+    pub symbols: Option<String>,
     #[arg(long, value_name = "FILE", value_parser = some_text(), help = MAP)]
     pub map: Option<String>,
     #[command(flatten)]
@@ -62,7 +64,7 @@ pub struct RunOptions {
 pub struct StartOptions {
     #[arg(long, value_name = "M|S|U", hide_possible_values = true, ignore_case = true, help = "the mode at the start (default M)")]
     pub mode: Option<Mode>,
-    #[arg(long, value_name = "ADDRESS|start", value_parser = pc, help = "the program counter at the start (default 0x80000000); start: the start address that an Intel HEX file gives")]
+    #[arg(long, value_name = "ADDRESS|start", value_parser = pc, help = "the program counter at the start (default: the entry point of an ELF file, else 0x80000000); start: the start address that an Intel HEX file gives")]
     pub pc: Option<Pc>,
     #[arg(long, value_name = "ADDRESS", value_parser = number, help = "the shadow stack pointer at the start (default 0)")]
     pub ssp: Option<u64>,

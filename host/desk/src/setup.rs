@@ -4,13 +4,14 @@ use crate::drive::Limits;
 use crate::environment::Services;
 use crate::failure::Failure;
 use crate::image;
-use crate::load::{load, Image};
+use crate::load::{self, load, Image, Loaded};
 use crate::map::PageMap;
 use crate::number::{number, size};
 use crate::output::{self, Output};
 use crate::run_options::{Expect, RunOptions, Wanted};
 use crate::start::{hart, pc};
 use crate::state::State;
+use crate::symbols::Symbols;
 use sporhulma::{word, BASE};
 
 /// All that `desk run` was asked to do.
@@ -18,6 +19,7 @@ pub struct Job {
     pub image: Image,
     pub state: State,
     pub map: PageMap,
+    pub symbols: Symbols,
     pub limits: Limits,
     pub expect: Option<Expect>,
     pub services: Services,
@@ -37,7 +39,11 @@ pub struct Job {
 
 impl Job {
     pub fn new(options: &RunOptions) -> Result<Job, Failure> {
-        let (image, mem) = load(&options.image, options.format, options.memory)?;
+        let Loaded {
+            image,
+            mem,
+            symbols,
+        } = load(&options.image, options.format, options.memory)?;
         let mut hart = hart(&options.start)?;
         hart.rest[word::PC] = pc(&options.start, &image)?.unwrap_or(hart.rest[word::PC]);
         let state = State { hart, mem };
@@ -54,7 +60,12 @@ impl Job {
             steps: options.steps,
             follow: options.follow,
         };
+        let symbols = match &options.symbols {
+            Some(path) => load::symbols(path)?,
+            None => symbols,
+        };
         Ok(Job {
+            symbols,
             map: options.map.as_deref().map_or(Ok(PageMap::default()), map)?,
             dumps: dumps(options)?,
             expect: options.expect.clone(),
@@ -111,6 +122,7 @@ fn output(
     let others = [
         ("the image", Some(options.image.as_str())),
         ("the page map", options.map.as_deref()),
+        ("the file of symbols", options.symbols.as_deref()),
         ("the trace", trace.filter(|_| option != "--trace-to")),
     ];
     output::asked(option, path.as_deref(), &others)

@@ -2,7 +2,7 @@
 
 use crate::bits::{LPE, MLPE, PMM, SSE};
 use crate::failure::Failure;
-use crate::load::Image;
+use crate::load::{Format, Image};
 use crate::names::{csr_index, register_number};
 use crate::number::{number, register_value};
 use crate::run_options::{Pc, StartOptions};
@@ -11,6 +11,7 @@ use sporhulma::{word, Hart, MSTATUS_CLEAR};
 /// Where the hart starts, if the options say it: at an address, or where the image says.
 pub fn pc(options: &StartOptions, image: &Image) -> Result<Option<u64>, Failure> {
     match options.pc {
+        None if image.format == Format::Elf => Ok(image.start),
         None => Ok(None),
         Some(Pc::At(address)) => Ok(Some(address)),
         Some(Pc::Start) => {

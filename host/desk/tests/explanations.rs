@@ -296,7 +296,7 @@ fn illegal_instructions() {
         (0x2835_1513, "", "no instruction of this hart has this word; it looks like BSETI (Zbs)"),
         (0x6035_1513, "", "no instruction of this hart has this word"),                      // one after cpop a0,a0
         (0x02b5_153b, "", "no instruction of this hart has this word"),                      // there is no mulhw
-        (0x00b5_252f, "", "no instruction of this hart has this word; it looks like AMOADD.W (A, which the hart lacks:\n            compile with -march=rv64im)"),
+        (0x00b5_252f, "", "no instruction of this hart has this word; it looks like AMOADD.W (A, which the hart\n            lacks: compile with -march=rv64im)"),
         (0x0005_3507, "", "no instruction of this hart has this word; it looks like FLD (D, which the hart lacks:\n            compile with -march=rv64im)"),
         (0x0000_100f, "", "no instruction of this hart has this word; it looks like FENCE.I"),
         (0x1050_0073, "", "no instruction of this hart has this word; it is WFI"),

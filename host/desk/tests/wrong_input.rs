@@ -2,20 +2,7 @@
 
 mod common;
 
-use common::{Desk, ECALL};
-
-/// Runs each command line, and holds its whole output against the line that must be on stderr.
-fn refused(test: &str, prepare: impl Fn(&Desk), cases: &[(&str, &str)]) {
-    let desk = Desk::new(test);
-    desk.image("ok.bin", &[ECALL]);
-    prepare(&desk);
-    for (arguments, line) in cases {
-        let outcome = desk.run(arguments);
-        assert_eq!(outcome.err, format!("desk: {line}\n"), "desk {arguments}");
-        assert_eq!(outcome.out, "", "desk {arguments}");
-        assert_eq!(outcome.status, 2, "desk {arguments}");
-    }
-}
+use common::{refused, Desk, ECALL};
 
 #[test]
 #[rustfmt::skip]
@@ -297,8 +284,8 @@ fn hex_files() {
         ("run guess.hex --format hex", "guess.hex:1: ' ' in column 4 is no hex digit: ':13 and so on' (the loader's refusal 6)"),
         ("run ok.bin --format hex", "ok.bin:1: it begins with 's' and not with a colon: 's\\x00\\x00\\x00' (the loader's refusal 6)"),
         ("run huge.hex", "huge.hex: the text has more than 67108864 bytes (64M); leave out what is stored twice"),
-        ("run ok.bin --format elf", "--format: 'elf' is not one of raw, hex"),
-        ("run ok.bin --pc start", "--pc: 'start' is the start address of an Intel HEX file, and ok.bin is a raw image; give an address"),
+        ("run ok.bin --format coff", "--format: 'coff' is not one of raw, hex, elf"),
+        ("run ok.bin --pc start", "--pc: 'start' is the start address of an Intel HEX or ELF file, and ok.bin is a raw image; give an address"),
         ("run good.hex --pc start", "--pc: 'start' is the file's start address, and good.hex gives none (no type 05 record); give an address"),
         ("run start.hex --pc start", "--pc: 0x80000002 is not a multiple of 4; try 0x80000000 or 0x80000004 (the hart's refusal 1)"),
         ("run good.hex --pc begin", "--pc: 'begin' is not a number; write it as 4096, 0x1000 or 0b1000"),
@@ -321,7 +308,7 @@ fn hex_written() {
         ("hex none.bin", "none.bin: there is no such file; check the path"),
         ("hex empty.bin", "empty.bin: the image is empty; give a file with at least one instruction"),
         ("hex huge.bin", "huge.bin: the image has more than 1048576 bytes (1M), the largest memory"),
-        ("hex good.hex", "good.hex: it is Intel HEX already; give a raw image"),
+        ("hex good.hex", "good.hex: it is Intel HEX; give a raw image"),
         ("hex ok.bin -o", "-o: its FILE is missing; write -o FILE"),
         ("hex ok.bin -o ok.bin", "-o: 'ok.bin' is the image, which would be lost; give another file"),
         ("hex ok.bin -o no/new.hex", "-o: 'no/new.hex' cannot be written (No such file or directory (os error 2)); give a file in a folder where you may write"),

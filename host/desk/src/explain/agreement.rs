@@ -4,6 +4,7 @@
 use super::{expected, Trap};
 use crate::map::{Entry, PageMap};
 use crate::state::State;
+use crate::symbols::Symbols;
 use formats::extensions::{drawn, ABSENT};
 use sporhulma::{word, Hart};
 use std::collections::BTreeSet;
@@ -133,17 +134,18 @@ fn compare(before: &State, map: &PageMap, case: usize, seen: &mut Seen) {
     let mut after = before.clone();
     let answer = sporhulma::step(&mut after.hart, &mut after.mem, &map.words);
     assert_eq!(answer.refusal, 0, "case {case}");
-    let own = expected(before, map);
+    let symbols = Symbols::default();
+    let own = expected(before, map, &symbols);
     assert_eq!(
         own.is_some(),
         answer.trapped,
         "case {case}: {}",
-        before.next_text(map)
+        before.next_text(map, &symbols)
     );
     if !answer.trapped {
         return;
     }
-    let trap = Trap::explain(before, map, &after.hart, answer.cause);
+    let trap = Trap::explain(before, map, &symbols, &after.hart, answer.cause);
     assert!(
         trap.rows.iter().all(|row| row.0 != "note"),
         "case {case}: {:?}",
@@ -201,7 +203,7 @@ fn an_explanation_that_does_not_agree_is_not_given() {
     let map = PageMap::default();
     let answer = sporhulma::step(&mut after.hart, &mut after.mem, &map.words);
     assert_eq!(answer.cause, 2);
-    let trap = Trap::explain(&before, &map, &after.hart, 3);
+    let trap = Trap::explain(&before, &map, &Symbols::default(), &after.hart, 3);
     assert_eq!(trap.rows.len(), 2);
     assert_eq!(trap.rows[1].0, "note");
     assert!(trap.rows[1]

@@ -4,12 +4,13 @@ use super::{Rows, Verdict};
 use crate::facts::hex;
 use crate::names::{mode_name, M};
 use crate::place::Path;
+use crate::symbols::Symbols;
 use serde_json::Value;
 
 /// The trap of a refused access; none if it was granted.
-pub fn verdict(path: &Path) -> Option<Verdict> {
+pub fn verdict(path: &Path, symbols: &Symbols) -> Option<Verdict> {
     let refused = path.end.as_ref().err()?;
-    let mut rows = rows(path);
+    let mut rows = rows(path, symbols);
     let why = format!(
         "by rule {} of \"From address to byte\": {}",
         refused.rule, refused.why
@@ -23,6 +24,7 @@ pub fn verdict(path: &Path) -> Option<Verdict> {
         ("width", Value::from(path.access.width)),
         ("address", hex(path.access.address)),
         ("transformed", hex(path.transformed)),
+        ("symbol", symbols.symbol(path.transformed, path.space())),
         ("effective_mode", Value::from(mode_name(path.mode))),
         (
             "entry",
@@ -39,17 +41,15 @@ pub fn verdict(path: &Path) -> Option<Verdict> {
 }
 
 /// The access as computed, as whom, and that it was not masked where that made a difference.
-fn rows(path: &Path) -> Rows {
+fn rows(path: &Path, symbols: &Symbols) -> Rows {
     let access = &path.access;
-    let mut text = format!(
-        "{} of {} bytes at {:#x}",
-        access.kind.name(),
-        access.width,
-        access.address
-    );
-    if path.transformed != access.address {
-        text += &format!(", after masking {:#x}", path.transformed);
-    }
+    let name = access.kind.name();
+    let met = symbols.shown(path.transformed, path.space());
+    let at = match path.transformed == access.address {
+        true => met,
+        false => format!("{:#x}, after masking {met}", access.address),
+    };
+    let text = format!("{name} of {} bytes at {at}", access.width);
     let regime = match (path.sv39, path.mode) {
         (true, _) => "under Sv39",
         (false, M) => "where addresses are physical",

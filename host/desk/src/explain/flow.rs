@@ -1,12 +1,12 @@
-//! Traps of control flow: landing pads, the shadow stack's pop-check, jump targets, ECALL and EBREAK.
+//! Traps of control flow: landing pads, jump targets, ECALL and EBREAK.
 
 use super::{family, Verdict};
 use crate::bits::{LPE, MLPE, SSE};
 use crate::facts::hex;
 use crate::names::{mode_name, M, S, U};
-use crate::place::Path;
 use crate::state::State;
-use disasm::{register, Word};
+use crate::symbols::Symbols;
+use disasm::Word;
 use serde_json::Value;
 use sporhulma::{word, Hart};
 
@@ -67,45 +67,8 @@ pub fn landing_pad(before: &State, found: u32) -> Option<Verdict> {
     })
 }
 
-/// The trap of a pop-check whose register is not what was pushed.
-pub fn mismatch(before: &State, path: &Path, physical: u64, source: usize) -> Option<Verdict> {
-    let used = before.hart.x[source];
-    let pushed = before.bytes(physical, 8);
-    if used == pushed {
-        return None;
-    }
-    let (name, at) = (register(source), path.transformed);
-    let why = "shadow stack mismatch: the return address is not the one that was pushed";
-    let mut rows = vec![
-        ("why", why.into()),
-        (
-            "used",
-            format!("{used:#x} (in {name}: the return would go there)"),
-        ),
-        ("pushed", format!("{pushed:#x} (on the shadow stack)")),
-        (
-            "lies at",
-            format!("virtual {at:#x} (ssp), physical {physical:#x}"),
-        ),
-    ];
-    rows.extend(path.entry.map(|entry| entry.row()));
-    let facts = vec![
-        ("register", Value::from(name)),
-        ("used", hex(used)),
-        ("pushed", hex(pushed)),
-        ("virtual", hex(at)),
-        ("physical", hex(physical)),
-    ];
-    Some(Verdict {
-        cause: 18,
-        tval: 3,
-        rows,
-        facts,
-    })
-}
-
 /// The trap of a jump or a taken branch to an address that is no multiple of 4.
-pub fn target(before: &State, instruction: u32, family: u64) -> Option<Verdict> {
+pub fn target(before: &State, symbols: &Symbols, instruction: u32, family: u64) -> Option<Verdict> {
     let fields = Word(instruction);
     let pc = before.pc();
     let target = match family {
@@ -116,7 +79,8 @@ pub fn target(before: &State, instruction: u32, family: u64) -> Option<Verdict> 
         _ if taken(&before.hart, fields) => pc.wrapping_add(fields.imm_b() as u64),
         _ => return None,
     };
-    let why = format!("rule 3: the jump's target {target:#x} is not a multiple of 4");
+    let shown = symbols.shown(target, before.space());
+    let why = format!("rule 3: the jump's target {shown} is not a multiple of 4");
     let facts = vec![("rule", Value::from(3)), ("target", hex(target))];
     let verdict = Verdict {
         cause: 0,

@@ -1,6 +1,5 @@
 //! `desk hex`: writes a raw image as a text in Intel HEX.
 
-use super::told;
 use crate::failure::Failure;
 use crate::image;
 use crate::number::number;
@@ -32,12 +31,7 @@ const LENGTH: usize = 16;
 /// Prints or writes the text; nothing is written where something is wrong.
 pub fn run(options: &HexOptions, out: &mut dyn Write) -> Result<u8, Failure> {
     let path = options.image.as_str();
-    let bytes = image::bytes(path)?;
-    if told(&bytes) {
-        let wrong = "it is Intel HEX already; give a raw image";
-        return Err(Failure::at(path, wrong));
-    }
-    let bytes = image::raw(path, bytes)?;
+    let bytes = image::image(path)?;
     let at = options.at.unwrap_or(BASE as u32);
     fits(at, bytes.len() as u64).map_err(|wrong| Failure::at("--at", wrong))?;
     let length = options.length.unwrap_or(LENGTH);

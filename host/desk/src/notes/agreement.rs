@@ -8,6 +8,7 @@ use crate::explain::{family, shadow_stack_on};
 use crate::map::PageMap;
 use crate::progress::Progress;
 use crate::state::State;
+use crate::symbols::Symbols;
 use sporhulma::word;
 
 const MEMORIES: usize = 200;
@@ -65,7 +66,8 @@ fn a_run_sees_what_a_trace_sees() {
     let random = &mut Random(0x0bad_5eed_0bad_5eed);
     let mut seen = [[0; 3]; 4];
     let mut counted = 0;
-    let progress = Progress::start(None).unwrap();
+    let symbols = Symbols::default();
+    let progress = Progress::start(None, &symbols).unwrap();
     for _ in 0..MEMORIES {
         let mem = memory(random);
         for _ in 0..HARTS {

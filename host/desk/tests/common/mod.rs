@@ -2,6 +2,7 @@
 
 #![allow(dead_code)] // each test file uses its own part
 
+pub mod elf;
 pub mod json;
 
 use json::{Reader, Value};
@@ -113,5 +114,18 @@ impl Desk {
 impl Drop for Desk {
     fn drop(&mut self) {
         let _ = fs::remove_dir_all(&self.folder);
+    }
+}
+
+/// Runs each command line, and holds its whole output against the line that must be on stderr.
+pub fn refused(test: &str, prepare: impl Fn(&Desk), cases: &[(&str, &str)]) {
+    let desk = Desk::new(test);
+    desk.image("ok.bin", &[ECALL]);
+    prepare(&desk);
+    for (arguments, line) in cases {
+        let outcome = desk.run(arguments);
+        assert_eq!(outcome.err, format!("desk: {line}\n"), "desk {arguments}");
+        assert_eq!(outcome.out, "", "desk {arguments}");
+        assert_eq!(outcome.status, 2, "desk {arguments}");
     }
 }
