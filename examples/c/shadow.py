@@ -9,7 +9,8 @@ register that the call left, and needs none.
 
 It is right only if each way through a function saves ra once before it loads it once, and ra is used for nothing else. So it looks
 at every function, and refuses one in which something else writes ra, ra is saved or loaded in more than one place of the stack, or
-the save does not come first. longjmp leaves frames without their pop-checks: such programs need a compiler that knows Zicfiss."""
+a label or a jump stands before the save. longjmp leaves frames without their pop-checks: such programs need a compiler that knows
+Zicfiss."""
 import re
 import sys
 
@@ -21,6 +22,7 @@ MOVE = re.compile(r"^\s*(sd|ld)\s+(?:ra|x1),\s*(-?\d+)\((?:sp|x2)\)\s*(?:#.*)?$"
 # Instructions whose first operand is a source and not what they write.
 READERS = re.compile(r"^(s[bhwd]|b\w+|j|jr|ret|tail|csrw|fs[wd])$")
 CALLS = re.compile(r"^(call|jal|jalr)$")
+JUMPS = re.compile(r"^\s*(b\w+|j|jr|jal|jalr|call|tail|ret)\s|^\.L\d+:")
 
 
 def refuse(function, line, why):
@@ -37,12 +39,13 @@ def writes_ra(line):
 
 def function_lines(name, lines):
     """The lines of one function with its pushes and pop-checks."""
-    place, told = None, []
+    place, jumped, told = None, False, []
     for line in lines:
         move = MOVE.match(line)
+        jumped = jumped or bool(JUMPS.match(line))
         if re.match(r"^\s*sd\s+(ra|x1),", line):
-            if not move or place is not None:
-                refuse(name, line, "ra is stored twice, or not on the stack")
+            if not move or place is not None or jumped:
+                refuse(name, line, "ra is stored twice, not on the stack, or behind a label or a jump")
             place = move[2]
             told += [PUSH, line]
         elif move:

@@ -8,18 +8,18 @@ static void unlock(void) {
     exit(0);
 }
 
-/* Where the return address lies is for the compiler to say: the entry that holds it is looked for, and then overwritten. */
-__attribute__((noinline)) static void lookup(long value) {
+/* Where the return address lies is for the compiler to say: so the wrong index is looked for. */
+__attribute__((noinline)) static long lookup(long value) {
     volatile long table[4] = {1, 2, 3, 4};
     long back = (long)__builtin_return_address(0);
     volatile long *entry = table;
-    for (int index = 0; index < 32; index++)
-        if (entry[index] == back) entry[index] = value;
+    while (*entry != back) entry++;
+    *entry = value;
     printf("looked up %ld\n", table[3]);
+    return table[0];
 }
 
 int main(void) {
-    lookup((long)unlock);
-    printf("back in main\n");
+    printf("back in main, with %ld\n", lookup((long)unlock));
     return 1;
 }
