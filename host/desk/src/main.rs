@@ -13,6 +13,7 @@ mod frames;
 mod help;
 mod image;
 mod intel_hex;
+mod layout;
 mod load;
 mod map;
 mod names;
