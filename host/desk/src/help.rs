@@ -59,14 +59,17 @@ addresses, an Intel HEX file where its records say, and a raw image at the start
 at pc 0x80000000, and stops at the first trap or when its steps are spent. Addresses are told by
 name and line of source where an ELF file has them.
 
+A program in user mode under Sv39 with its shadow stack:
+  desk run program.elf --user --expect ecall
+
 Numbers are written as 4096, 0x1000, 0b1000 or 1_000_000. The switches act on top of --csr.
-A hart in user mode under Sv39 with its shadow stack, traced:
+The same with a map of your own, traced:
   desk run program.bin --map program.map --mode U --pc 0x10000 --sv39 --shadow-stack \\
-      --ssp 0x31000 --x sp=0x21000 --trace --expect ecall
+      --ssp 0x31000 --x sp=0x22000 --trace --expect ecall
 program.map:
   0x10000 -> 0x80000000 r-x u       # code
-  0x20000 -> 0x80001000 rw  u       # data and stack
-  0x30000 -> 0x80002000 shadow u    # shadow stack (W alone): ssp starts at its end
+  0x20000..0x22000 -> 0x80001000 rw u   # data and stack, two pages
+  0x30000 -> 0x80003000 shadow u    # shadow stack (W alone): ssp starts at its end
 Flags are the leaf's r w x u g; v a d are set unless !v !a !d is there. A line of the form
 0x40000 -> leaf 0x200010d7 gives the leaf's whole word.";
 

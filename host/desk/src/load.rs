@@ -4,6 +4,10 @@ use crate::elf::{self, Elf};
 use crate::failure::Failure;
 use crate::image;
 use crate::intel_hex;
+use crate::layout::{self, lay_out, Layout};
+use crate::map::PageMap;
+use crate::run_options::{MapWish, RunOptions};
+use crate::setup;
 use crate::symbols::Symbols;
 use clap::ValueEnum;
 
@@ -51,16 +55,32 @@ impl Image {
 pub struct Loaded {
     pub image: Image,
     pub mem: Vec<u8>,
+    pub map: PageMap,
+    /// How the map was laid out, if no file gave it.
+    pub layout: Option<Layout>,
     /// What the image itself names.
     pub symbols: Symbols,
 }
 
-/// A file, and memory of so many bytes with what it holds.
-pub fn load(path: &str, chosen: Option<Format>, length: u64) -> Result<Loaded, Failure> {
+/// Memory with what the image holds, and the page map, by which an ELF file's segments may be placed.
+pub fn load(options: &RunOptions) -> Result<Loaded, Failure> {
+    let (path, chosen) = (options.image.as_str(), options.format);
     let bytes = image::bytes(path)?;
     let format = chosen.unwrap_or_else(|| told(&bytes));
-    let mut mem = vec![0; length as usize];
+    let mut mem = vec![0; options.memory as usize];
     let mut symbols = Symbols::default();
+    let (mut map, mut layout) = (PageMap::default(), None);
+    match options.map_wish() {
+        MapWish::None => (),
+        MapWish::File(file) => map = setup::map(file)?,
+        MapWish::Auto(_) if format == Format::Elf => (),
+        MapWish::Auto(option) => {
+            let wrong = format!(
+                "it lays out the segments of an ELF file, and {path} is none; give --map FILE"
+            );
+            return Err(Failure::at(option, wrong));
+        }
+    }
     let start = match format {
         Format::Hex => intel_hex::load(path, &bytes, &mut mem, chosen.is_none())?,
         Format::Raw => {
@@ -69,7 +89,19 @@ pub fn load(path: &str, chosen: Option<Format>, length: u64) -> Result<Loaded, F
         }
         Format::Elf => {
             let mut elf = Elf::read(path, image::whole(path, &bytes)?)?;
-            elf.leave_out_headers();
+            match options.map_wish() {
+                MapWish::Auto(_) => {
+                    let laid = lay_out(&mut elf, &options.wish());
+                    let laid = laid.map_err(|wrong| Failure::at(path, wrong))?;
+                    map = PageMap::parse("--map auto", &laid.text)?;
+                    layout = Some(laid);
+                }
+                _ => {
+                    elf.leave_out_headers();
+                    let followed = layout::follow(&mut elf, &map, options.memory);
+                    followed.map_err(|wrong| Failure::at(path, wrong))?;
+                }
+            }
             elf.place(path, &mut mem)?;
             symbols = Symbols::new(path, &elf)?;
             Some(elf.entry)
@@ -83,6 +115,8 @@ pub fn load(path: &str, chosen: Option<Format>, length: u64) -> Result<Loaded, F
     Ok(Loaded {
         image,
         mem,
+        map,
+        layout,
         symbols,
     })
 }

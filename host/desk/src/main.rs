@@ -17,6 +17,7 @@ mod hints;
 mod image;
 mod intel_hex;
 mod interrupt;
+mod layout;
 mod load;
 mod map;
 mod names;

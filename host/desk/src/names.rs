@@ -8,6 +8,9 @@ pub const U: u64 = 0;
 pub const S: u64 = 1;
 pub const M: u64 = 3;
 
+/// The stack pointer's number.
+pub const SP: usize = 2;
+
 pub fn mode_name(mode: u64) -> &'static str {
     match mode {
         U => "U",

@@ -1,13 +1,14 @@
 //! Where and why a run stopped: in words, and as a JSON object.
 
+use crate::bits::LPE;
 use crate::drive::{End, Stop};
 use crate::dump;
 use crate::ends;
-use crate::explain::{cause_name, Rows, Trap};
+use crate::explain::{cause_name, shadow_stack_on, Rows, Trap};
 use crate::facts::{hex, object, Facts};
 use crate::frames::{Scope, Table};
 use crate::hints;
-use crate::names::mode_name;
+use crate::names::{mode_name, SP};
 use crate::notes;
 use crate::setup::Job;
 use crate::symbols::Symbols;
@@ -45,6 +46,7 @@ impl Report {
             _ => ("next", end.after.next_text(map, &job.symbols)),
         });
         rows.extend(start(job).map(|start| ("start", start)));
+        rows.extend(user(job));
         let hints = hints::hints(end, trap.as_ref(), &job.state.hart, map);
         rows.extend(hints.into_iter().map(|hint| ("hint", hint)));
         rows.extend(end.environment.row().map(|calls| ("calls", calls)));
@@ -119,6 +121,10 @@ impl Report {
         members.push(("notes", Value::from(self.notes.clone())));
         members.extend(hart_json(end, &job.symbols));
         members.push(("dump", Value::Array(dumps.collect())));
+        if let Some(layout) = &job.layout {
+            let lines = layout.text.lines().map(Value::from);
+            members.push(("map", lines.collect()));
+        }
         if job.frames {
             let scope = Scope::of(&job.state.hart, end.followed);
             members.push(("frames", frames(job).json_in_run(&scope)));
@@ -156,6 +162,37 @@ fn start(job: &Job) -> Option<String> {
     ))
 }
 
+/// What `--user` set, as the hart had it at the start.
+fn user(job: &Job) -> Rows {
+    let (Some(layout), true) = (&job.layout, job.user) else {
+        return Vec::new();
+    };
+    let hart = &job.state.hart;
+    let pads = match (hart.rest[word::SENVCFG] & LPE != 0, layout.pads) {
+        (true, pads) => format!("landing pads on ({pads} in the program)"),
+        (false, 0) => "landing pads off, since the program has none".into(),
+        (false, pads) => format!("landing pads off ({pads} in the program)"),
+    };
+    let shadow = match shadow_stack_on(hart) {
+        true => "shadow stack on",
+        false => "shadow stack off",
+    };
+    let pc = job.symbols.told(job.state.pc(), job.state.space());
+    let mode = mode_name(job.state.mode());
+    let satp = match hart.rest[word::SATP] >> 60 {
+        8 => "under Sv39 by the map below",
+        _ => "with satp Bare",
+    };
+    let (sp, ssp) = (hart.x[SP], hart.rest[word::SSP]);
+    vec![
+        ("user", format!("{mode} {satp}, {shadow}, {pads}")),
+        (
+            "began",
+            format!("at pc {pc} with sp {sp:#x} and ssp {ssp:#x}"),
+        ),
+    ]
+}
+
 fn trap_json(trap: &Trap) -> Value {
     let facts = trap.facts.iter().map(|(key, value)| (*key, value.clone()));
     let mut members = vec![
@@ -188,6 +225,11 @@ fn frames(job: &Job) -> Table {
 /// The tables that were asked for.
 pub fn tables(end: &End, job: &Job) -> String {
     let mut text = String::new();
+    if let Some(layout) = &job.layout {
+        let lines = layout.text.lines().map(|line| format!("  {line}\n"));
+        text += "\nThe map that was laid out, as --map FILE takes it:\n";
+        text += &lines.collect::<String>();
+    }
     if job.frames {
         let scope = Scope::of(&job.state.hart, end.followed);
         text += &format!("\n{}", frames(job).text(&scope));

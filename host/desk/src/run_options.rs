@@ -1,5 +1,7 @@
 //! The options of `desk run` and of its start, with what the help says about each. `desk frames` takes some of them as they are.
 
+use crate::failure::Failure;
+use crate::layout::Wish;
 use crate::load::Format;
 use crate::number::{number, size};
 use crate::refusal;
@@ -8,7 +10,9 @@ use clap::{Args, ValueEnum};
 
 pub const MEMORY: &str =
     "bytes of memory, a multiple of 4096: 65536, 0x10000, 64K (default and most: 1M)";
-pub const MAP: &str = "the page map, a line a page: 0x10000 -> 0x80001000 r-x u (see docs/DESK.md)";
+pub const MAP: &str =
+    "the page map, lines as 0x10000..0x14000 -> 0x80001000 r-x u (see docs/DESK.md)";
+const AUTO_MAP: &str = "the page map, lines as 0x10000..0x14000 -> 0x80001000 r-x u (see docs/DESK.md); auto: one for the segments of an ELF file, with a stack and a shadow stack";
 pub const SHADOW_STACK: &str = "shadow stack on in S and U: sets SSE in menvcfg and senvcfg";
 pub const JSON: &str = "say all of this as one JSON object (see docs/DESK.md)";
 
@@ -24,8 +28,14 @@ pub struct RunOptions {
     pub format: Option<Format>,
     #[arg(long, value_name = "FILE.elf", value_parser = some_text(), help = "an ELF file whose symbols and lines name addresses, beside a raw image or Intel HEX")]
     pub symbols: Option<String>,
-    #[arg(long, value_name = "FILE", value_parser = some_text(), help = MAP)]
+    #[arg(long, value_name = "FILE|auto", value_parser = some_text(), help = AUTO_MAP)]
     pub map: Option<String>,
+    #[arg(long, value_name = "SIZE", value_parser = stack, help = "bytes of the stack that --map auto lays out, a multiple of 4096 (default 16K)")]
+    pub stack: Option<u64>,
+    #[arg(long, value_name = "SIZE", value_parser = stack, help = "bytes of the shadow stack that --map auto lays out, a multiple of 4096 (default 4K)")]
+    pub shadow: Option<u64>,
+    #[arg(long, conflicts_with = "mode", help = "run an ELF file in U under Sv39 with its shadow stack: --map auto, with mode, pc, sp and ssp set to it, and landing pads on if the program has any")]
+    pub user: bool,
     #[command(flatten)]
     pub start: StartOptions,
     #[arg(long, value_name = "N", allow_negative_numbers = true, value_parser = number, help = "the most steps, any number (default: on to the program's end; Ctrl-C ends it with a report)")]
@@ -56,6 +66,71 @@ pub struct RunOptions {
     pub frames: bool,
     #[arg(long, help = JSON)]
     pub json: bool,
+}
+
+/// Where the page map comes from.
+pub enum MapWish<'a> {
+    None,
+    File(&'a str),
+    /// Laid out, since this option asks for it.
+    Auto(&'static str),
+}
+
+/// Bytes of the stacks where nothing else is said.
+const STACK: u64 = 16 << 10;
+const SHADOW: u64 = 4 << 10;
+
+impl RunOptions {
+    pub fn map_wish(&self) -> MapWish<'_> {
+        match self.map.as_deref() {
+            Some("auto") => MapWish::Auto("--map auto"),
+            Some(file) => MapWish::File(file),
+            None if self.user => MapWish::Auto("--user"),
+            None => MapWish::None,
+        }
+    }
+
+    pub fn map_file(&self) -> Option<&str> {
+        match self.map_wish() {
+            MapWish::File(file) => Some(file),
+            _ => None,
+        }
+    }
+
+    /// What `--map auto` is to lay out. Pages are for U unless the hart starts in S.
+    pub fn wish(&self) -> Wish {
+        Wish {
+            memory: self.memory,
+            stack: self.stack.unwrap_or(STACK),
+            shadow: self.shadow.unwrap_or(SHADOW),
+            user: !matches!(self.start.mode, Some(Mode::S)),
+        }
+    }
+
+    /// Whether the options go together.
+    pub fn agree(&self) -> Result<(), Failure> {
+        let map = self.map_wish();
+        let auto = matches!(map, MapWish::Auto(_));
+        for (given, option) in [(self.stack, "--stack"), (self.shadow, "--shadow")] {
+            if given.is_some() && !auto {
+                let wrong = "it is for the map of --map auto or --user; leave it out";
+                return Err(Failure::at(option, wrong));
+            }
+        }
+        if self.user && !auto {
+            let wrong = "it lays out its own map; leave out --map, or with yours give --mode U --sv39 --shadow-stack, --ssp and --x sp";
+            return Err(Failure::at("--user", wrong));
+        }
+        if self.frames && matches!(map, MapWish::None) {
+            let wrong = "it tells what the map's entries name, and no map is given; add --map FILE";
+            return Err(Failure::at("--frames", wrong));
+        }
+        if self.trace && self.json && self.trace_to.is_none() {
+            let wrong = "with --json the trace needs a place of its own; add --trace-to FILE";
+            return Err(Failure::at("--trace", wrong));
+        }
+        Ok(())
+    }
 }
 
 /// How the hart is set at the start.
@@ -137,6 +212,17 @@ pub fn memory(text: &str) -> Result<u64, String> {
     match refusal::memory(length) {
         Some(wrong) => Err(wrong),
         None => Ok(length),
+    }
+}
+
+/// How many bytes a stack has.
+fn stack(text: &str) -> Result<u64, String> {
+    match size(text)? {
+        0 => Err("0 bytes are no stack; try 4096 or more, for instance 16K".into()),
+        length => match refusal::memory(length) {
+            Some(wrong) => Err(wrong),
+            None => Ok(length),
+        },
     }
 }
 

@@ -4,21 +4,26 @@ use crate::drive::Limits;
 use crate::environment::Services;
 use crate::failure::Failure;
 use crate::image;
+use crate::layout::Layout;
 use crate::load::{self, load, Image, Loaded};
 use crate::map::PageMap;
 use crate::number::{number, size};
 use crate::output::{self, Output};
 use crate::run_options::{Expect, RunOptions, Wanted};
-use crate::start::{hart, pc};
+use crate::start::{self, hart, pc};
 use crate::state::State;
 use crate::symbols::Symbols;
-use sporhulma::{word, BASE};
+use sporhulma::{word, Hart, BASE};
 
 /// All that `desk run` was asked to do.
 pub struct Job {
     pub image: Image,
     pub state: State,
     pub map: PageMap,
+    /// How the map was laid out, if no file gave it.
+    pub layout: Option<Layout>,
+    /// Whether the start is that of a user program by `--user`.
+    pub user: bool,
     pub symbols: Symbols,
     pub limits: Limits,
     pub expect: Option<Expect>,
@@ -39,22 +44,18 @@ pub struct Job {
 
 impl Job {
     pub fn new(options: &RunOptions) -> Result<Job, Failure> {
+        options.agree()?;
         let Loaded {
             image,
             mem,
+            map,
+            layout,
             symbols,
-        } = load(&options.image, options.format, options.memory)?;
-        let mut hart = hart(&options.start)?;
+        } = load(options)?;
+        let user = layout.as_ref().filter(|_| options.user);
+        let mut hart = hart(user.map_or_else(Hart::fresh, start::user), &options.start)?;
         hart.rest[word::PC] = pc(&options.start, &image)?.unwrap_or(hart.rest[word::PC]);
         let state = State { hart, mem };
-        if options.frames && options.map.is_none() {
-            let wrong = "it tells what the map's entries name, and no map is given; add --map FILE";
-            return Err(Failure::at("--frames", wrong));
-        }
-        if options.trace && options.json && options.trace_to.is_none() {
-            let wrong = "with --json the trace needs a place of its own; add --trace-to FILE";
-            return Err(Failure::at("--trace", wrong));
-        }
         let services = services(options)?;
         let limits = Limits {
             steps: options.steps,
@@ -66,7 +67,9 @@ impl Job {
         };
         Ok(Job {
             symbols,
-            map: options.map.as_deref().map_or(Ok(PageMap::default()), map)?,
+            user: options.user,
+            map,
+            layout,
             dumps: dumps(options)?,
             expect: options.expect.clone(),
             services,
@@ -121,7 +124,7 @@ fn output(
     let trace = options.trace_to.as_deref();
     let others = [
         ("the image", Some(options.image.as_str())),
-        ("the page map", options.map.as_deref()),
+        ("the page map", options.map_file()),
         ("the file of symbols", options.symbols.as_deref()),
         ("the trace", trace.filter(|_| option != "--trace-to")),
     ];

@@ -2,8 +2,9 @@
 
 use crate::bits::{LPE, MLPE, PMM, SSE};
 use crate::failure::Failure;
+use crate::layout::Layout;
 use crate::load::{Format, Image};
-use crate::names::{csr_index, register_number};
+use crate::names::{csr_index, register_number, SP, U};
 use crate::number::{number, register_value};
 use crate::run_options::{Pc, StartOptions};
 use sporhulma::{word, Hart, MSTATUS_CLEAR};
@@ -21,9 +22,22 @@ pub fn pc(options: &StartOptions, image: &Image) -> Result<Option<u64>, Failure>
     }
 }
 
-/// The hart at the start, but for `--pc`.
-pub fn hart(options: &StartOptions) -> Result<Hart, Failure> {
+/// A hart as a user program with its shadow stack needs it, but for its pc: in U under Sv39, with its stack pointers. Pads are on where
+/// the program has any.
+pub fn user(layout: &Layout) -> Hart {
     let mut hart = Hart::fresh();
+    let pads = if layout.pads > 0 { LPE } else { 0 };
+    hart.rest[word::MODE] = U;
+    hart.rest[word::SATP] = 8 << 60;
+    hart.rest[word::MENVCFG] = SSE | pads;
+    hart.rest[word::SENVCFG] = SSE | pads;
+    hart.rest[word::SSP] = layout.ssp;
+    hart.x[SP] = layout.sp;
+    hart
+}
+
+/// What the options make of a hart, but for `--pc`.
+pub fn hart(mut hart: Hart, options: &StartOptions) -> Result<Hart, Failure> {
     let mut set = Vec::new();
     for pair in &options.x {
         let (name, value) = assignment("--x", pair, "a0=5")?;

@@ -138,14 +138,14 @@ fn wrong_segments() {
     for (file, wrong) in [
         (with(|elf| elf.loads.clear()), "the ELF file has no loadable segments, so nothing to run; give a linked program"),
         (with(|elf| elf.loads[0].length = 0), "the ELF file has no loadable segments, so nothing to run; give a linked program"),
-        (with(|elf| elf.loads[0].physical = 0x1_0000), "segment 0 lies at physical 0x10000 to 0x10003, outside memory, which is 0x80000000 to 0x80000fff; link it to run from 0x80000000 on, or run it with --map auto"),
+        (with(|elf| elf.loads[0].physical = 0x1_0000), "segment 0 lies at physical 0x10000 to 0x10003, outside memory, which is 0x80000000 to 0x80000fff; link it to run from 0x80000000 on, or run it in user mode with --user"),
         (with(|elf| { elf.kind = 3; elf.loads[0].physical = 0 }), "segment 0 lies at physical 0x0 to 0x3, outside memory, which is 0x80000000 to 0x80000fff; it is position-independent; link it with -no-pie"),
         (with(|elf| elf.loads[0].length = 4097), "segment 0 lies at physical 0x80000000 to 0x80001000, outside memory, which is 0x80000000 to 0x80000fff; try --memory 8192"),
         (with(|elf| elf.loads.push(load(0, 0x8000_0002, "rw", &[1]))), "segments 0 and 1 both have physical 0x80000002; link them apart"),
         (number(8, 1 << 40), "the ELF file is broken: segment 0 has 4 bytes from offset 0x10000000000 on, and the file ends at 0x1f6; it was cut off"),
         (number(32, u64::MAX), "the ELF file is broken: segment 0 has 18446744073709551615 bytes from offset 0x78 on, and the file ends at 0x1f6; it was cut off"),
         (number(40, 3), "the ELF file is broken: segment 0 has 4 bytes in the file and only 3 in memory"),
-        (number(40, 1 << 63), "the ELF file is broken: segment 0 goes past the last address"),
+        (number(40, u64::MAX), "the ELF file is broken: segment 0 goes past the last address"),
     ] {
         let prepare = |desk: &Desk| desk.file("p.elf", &file);
         refused("elf-segments", prepare, &[("run p.elf --memory 4K", &format!("p.elf: {wrong}"))]);

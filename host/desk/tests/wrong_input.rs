@@ -195,7 +195,7 @@ fn maps() {
         ("run ok.bin --map none.map", "none.map: there is no such file; check the path"),
         ("run ok.bin --map binary.map", "binary.map: it is no text (not UTF-8); give a text file"),
         ("run ok.bin --map twice.map", "twice.map:3: page 0x2000 stands already in line 1; give each page once"),
-        ("run ok.bin --map many.map", "many.map:65: this is page 65; a map has at most 64"),
+        ("run ok.bin --map many.map", "many.map:65: the map has 65 pages, and the hart takes at most 64; this line is the first over it"),
     ]);
 }
 

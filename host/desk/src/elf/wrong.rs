@@ -119,7 +119,7 @@ pub fn outside(segment: &Segment, length: u64, relocatable: bool) -> Option<Stri
     } else if relocatable {
         "it is position-independent; link it with -no-pie".into()
     } else {
-        format!("link it to run from {BASE:#x} on, or run it with --map auto")
+        format!("link it to run from {BASE:#x} on, or run it in user mode with --user")
     };
     Some(format!(
         "segment {} lies at physical {start:#x} to {:#x}, outside memory, which is {BASE:#x} to {:#x}; {right}",

@@ -13,6 +13,7 @@ use crate::failure::Failure;
 use crate::run_options::{memory, some_text, StartOptions, JSON, MAP, MEMORY, SHADOW_STACK};
 use crate::{facts, setup, start};
 use clap::Args;
+use sporhulma::Hart;
 use std::io::Write;
 
 /// The options of `desk frames`: those of `desk run` that decide what a map names.
@@ -31,10 +32,11 @@ pub struct FramesOptions {
 
 /// Prints the table of a map; there is no run, so what it tells is of a hart that is in U under Sv39.
 pub fn run(options: &FramesOptions, out: &mut dyn Write) -> Result<u8, Failure> {
-    let hart = start::hart(&StartOptions {
+    let start = StartOptions {
         shadow_stack: options.shadow_stack,
         ..StartOptions::default()
-    })?;
+    };
+    let hart = start::hart(Hart::fresh(), &start)?;
     let table = Table::new(&hart, options.memory, &setup::map(&options.map)?);
     let said = match options.json {
         true => facts::text(&table.json()),
