@@ -3,12 +3,12 @@
 use crate::drive::{End, Stop};
 use crate::explain::{access, Trap};
 use crate::map::PageMap;
+use crate::names::SP;
 use crate::place::Kind;
 use crate::state::State;
 use disasm::Word;
 use sporhulma::{word, Hart, BASE};
 
-const SP: usize = 2;
 /// How far below 0 a stack that began at 0 is taken to reach.
 const STACK: i64 = 1 << 20;
 
@@ -54,14 +54,14 @@ fn no_stack(before: &State, trap: &Trap, start: &Hart, map: &PageMap) -> Option<
     let sp = before.hart.x[SP] as i64;
     match access(before, word)?.kind {
         Kind::Push | Kind::Pop if before.hart.rest[word::SSP] == 0 => Some(
-            "ssp is 0: no shadow stack was set up; --ssp ADDRESS gives the end of its pages".into(),
+            "ssp is 0: no shadow stack was set up; --ssp ADDRESS gives the end of its pages (--user sets it)".into(),
         ),
         Kind::Load | Kind::Store
             if Word(word).rs1() as usize == SP
                 && start.x[SP] == 0
                 && (-STACK..=0).contains(&sp) =>
         {
-            Some("sp was 0 at the start: no stack was set up; --x sp=ADDRESS gives its end".into())
+            Some("sp was 0 at the start: no stack was set up; --x sp=ADDRESS gives its end (--user sets it)".into())
         }
         _ => None,
     }

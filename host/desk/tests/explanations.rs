@@ -376,22 +376,22 @@ fn hints() {
         (
             vec![SSPUSH_RA],
             format!("{USER} --shadow-stack"),
-            "ssp is 0: no shadow stack was set up; --ssp ADDRESS gives the end of its pages",
+            "ssp is 0: no shadow stack was set up; --ssp ADDRESS gives the end of its pages (--user sets it)",
         ),
         (
             vec![sd_sp],
             format!("{USER} --steps 9"),
-            "sp was 0 at the start: no stack was set up; --x sp=ADDRESS gives its end",
+            "sp was 0 at the start: no stack was set up; --x sp=ADDRESS gives its end (--user sets it)",
         ),
         (
             vec![sd_sp],
             "--memory 4K".to_string(),
-            "sp was 0 at the start: no stack was set up; --x sp=ADDRESS gives its end",
+            "sp was 0 at the start: no stack was set up; --x sp=ADDRESS gives its end (--user sets it)",
         ),
         (
             vec![NOP],
             "--memory 4K --pc 0x10000".to_string(),
-            "the run began at 0x10000, outside memory (0x80000000 to 0x80000fff); --pc ADDRESS says\n            where the program starts",
+            "the run began at 0x10000, outside memory (0x80000000 to 0x80000fff); --pc ADDRESS says where the program starts",
         ),
         (
             vec![JR_A0],
@@ -406,7 +406,9 @@ fn hints() {
     ] {
         desk.image("p.bin", &words);
         let said = desk.run(&format!("run p.bin {options}")).out;
-        assert!(said.contains(&format!("\n  hint      {hint}\n")), "{options}: {said}");
+        let words: Vec<&str> = said.split_whitespace().collect();
+        let hint = format!("hint {hint}");
+        assert!(words.join(" ").contains(&hint), "{options}: {said}");
     }
     // None where the pointers are set and the fault has another reason.
     desk.image("p.bin", &[sd_sp]);

@@ -6,10 +6,10 @@ use super::console::Console;
 use super::errno::{negative, BAD_ADDRESS, BAD_HANDLE, NO_SUCH_CALL};
 use super::Reply;
 use crate::failure::Failure;
+use crate::names::SP;
 
 const A0: usize = 10;
 const A7: usize = 17;
-const SP: usize = 2;
 
 const CLOSE: u64 = 57;
 const READ: u64 = 63;
