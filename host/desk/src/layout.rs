@@ -165,8 +165,9 @@ fn rights(segment: &Segment) -> String {
 }
 
 fn few_enough(runs: &[Run], wish: &Wish) -> Result<(), String> {
-    let bytes: u64 = runs.iter().map(|run| run.pages.end - run.pages.start).sum();
-    let (program, stacks) = (bytes / PAGE, (wish.stack + wish.shadow) / PAGE);
+    let pages = |run: &Run| (run.pages.end - run.pages.start) / PAGE;
+    let program: u64 = runs.iter().map(pages).fold(0, u64::saturating_add);
+    let stacks = (wish.stack + wish.shadow) / PAGE;
     match program + stacks <= MOST as u64 {
         true => Ok(()),
         false => Err(format!(

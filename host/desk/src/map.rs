@@ -177,7 +177,13 @@ fn page_numbers(text: &str) -> Result<(u64, u64), String> {
     let (start, behind) = (number(first)?, number(end)?);
     aligned("virtual", behind)?;
     if behind <= start {
-        return Err(format!("the range {first}..{end} has no page; its end is the first address behind it, for instance {:#x}", start + PAGE));
+        let right = match start.checked_add(PAGE) {
+            Some(right) => {
+                format!("its end is the first address behind it, for instance {right:#x}")
+            }
+            None => "give the last page a line of its own".into(),
+        };
+        return Err(format!("the range {first}..{end} has no page; {right}"));
     }
     let last = page_number(&format!("{:#x}", behind - PAGE))?;
     match last.checked_sub(page) {

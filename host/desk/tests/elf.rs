@@ -145,7 +145,7 @@ fn wrong_segments() {
         (number(8, 1 << 40), "the ELF file is broken: segment 0 has 4 bytes from offset 0x10000000000 on, and the file ends at 0x1f6; it was cut off"),
         (number(32, u64::MAX), "the ELF file is broken: segment 0 has 18446744073709551615 bytes from offset 0x78 on, and the file ends at 0x1f6; it was cut off"),
         (number(40, 3), "the ELF file is broken: segment 0 has 4 bytes in the file and only 3 in memory"),
-        (number(40, u64::MAX), "the ELF file is broken: segment 0 goes past the last address"),
+        (number(40, u64::MAX), "the ELF file is broken: segment 0 goes past the last page"),
     ] {
         let prepare = |desk: &Desk| desk.file("p.elf", &file);
         refused("elf-segments", prepare, &[("run p.elf --memory 4K", &format!("p.elf: {wrong}"))]);

@@ -271,6 +271,7 @@ fn wrong_ranges() {
     for (map, wrong) in [
         ("0x10000..0x10000 -> 0x80000000 r", "1: the range 0x10000..0x10000 has no page; its end is the first address behind it, for instance 0x11000"),
         ("0x10000..0x8000 -> 0x80000000 r", "1: the range 0x10000..0x8000 has no page; its end is the first address behind it, for instance 0x11000"),
+        ("0xfffffffffffff000..0 -> 0x80000000 r", "1: the range 0xfffffffffffff000..0 has no page; give the last page a line of its own"),
         ("0x10000..0x10800 -> 0x80000000 r", "1: virtual address 0x10800 is not a multiple of 4096; try 0x10000"),
         ("0x10000.. -> 0x80000000 r", "1: '' is not a number; write it as 4096, 0x1000 or 0b1000"),
         ("0x10000..0x12000 -> leaf 0xdf", "1: 'leaf' gives the word of one page; for a range give a physical address and flags"),

@@ -1,6 +1,7 @@
 //! What is wrong with an ELF file for this hart, in words.
 
 use super::Segment;
+use crate::map::PAGE;
 use crate::refusal::MEMORY;
 use object::elf::{FileHeader64, ProgramHeader64};
 use object::read::elf::ProgramHeader;
@@ -99,9 +100,11 @@ pub fn extent(
     if size > memory {
         return Err(format!("the ELF file is broken: segment {number} has {size} bytes in the file and only {memory} in memory"));
     }
-    if address.checked_add(memory).is_none() || physical.checked_add(memory).is_none() {
+    // Up to the end of its last page, which is counted with.
+    let ends = |start: u64| start.checked_add(memory)?.checked_next_multiple_of(PAGE);
+    if ends(address).is_none() || ends(physical).is_none() {
         return Err(format!(
-            "the ELF file is broken: segment {number} goes past the last address"
+            "the ELF file is broken: segment {number} goes past the last page"
         ));
     }
     Ok(())
@@ -115,7 +118,7 @@ pub fn outside(segment: &Segment, length: u64, relocatable: bool) -> Option<Stri
         return None;
     }
     let right = if start >= BASE && end <= BASE + MEMORY {
-        format!("try --memory {}", (end - BASE).next_multiple_of(4096))
+        format!("try --memory {}", (end - BASE).next_multiple_of(PAGE))
     } else if relocatable {
         "it is position-independent; link it with -no-pie".into()
     } else {
