@@ -4,14 +4,15 @@ use crate::failure::Failure;
 use crate::interrupt::Interrupt;
 use crate::state::State;
 use crate::symbols::Symbols;
-use indicatif::{ProgressBar, ProgressStyle};
+use indicatif::{ProgressBar, ProgressState, ProgressStyle};
+use std::cell::Cell;
 use std::time::{Duration, Instant};
 
 pub struct Progress<'a> {
     /// Draws on stderr, and only where that is a terminal.
     bar: ProgressBar,
-    /// When the first line is due.
-    due: Instant,
+    /// When the next line is due.
+    due: Cell<Instant>,
     interrupt: Interrupt,
     symbols: &'a Symbols,
 }
@@ -22,27 +23,28 @@ impl<'a> Progress<'a> {
         let (bar, form) = match steps {
             Some(steps) => (
                 ProgressBar::new(steps),
-                "{human_pos} of {human_len} steps ({percent}%), {per_sec}, at {msg}",
+                "{human_pos} of {human_len} steps ({percent}%), {rate}, at {msg}",
             ),
             None => (
                 ProgressBar::new_spinner(),
-                "{human_pos} steps, {per_sec}, at {msg} (Ctrl-C ends it with a report)",
+                "{human_pos} steps, {rate}, at {msg} (Ctrl-C ends it with a report)",
             ),
         };
         // A template that indicatif does not take would show in its own form.
         if let Ok(style) = ProgressStyle::with_template(form) {
-            bar.set_style(style);
+            bar.set_style(style.with_key("rate", rate));
         }
         Ok(Progress {
             bar,
-            due: Instant::now() + Duration::from_secs(1),
+            due: Cell::new(Instant::now() + Duration::from_secs(1)),
             interrupt: Interrupt::new()?,
             symbols,
         })
     }
 
     pub fn tick(&self, count: u64, state: &State) {
-        if !self.bar.is_hidden() && Instant::now() >= self.due {
+        if !self.bar.is_hidden() && Instant::now() >= self.due.get() {
+            self.due.set(Instant::now() + Duration::from_millis(200));
             let place = self.symbols.shown(state.pc(), state.space());
             self.bar.set_message(place);
             self.bar.set_position(count);
@@ -53,6 +55,13 @@ impl<'a> Progress<'a> {
     pub fn interrupted(&self) -> bool {
         self.interrupt.pressed()
     }
+}
+
+/// Steps a second, since the start.
+fn rate(state: &ProgressState, line: &mut dyn std::fmt::Write) {
+    let rate = state.pos() as f64 / state.elapsed().as_secs_f64() / 1e6;
+    // A line that cannot be written shows no rate.
+    let _ = write!(line, "{rate:.1} million a second");
 }
 
 /// Takes the line away, so that what is said at the end stands alone.

@@ -42,7 +42,7 @@ pub struct RunOptions {
     pub steps: Option<u64>,
     #[arg(long, value_name = "N|all", default_value = "0", hide_default_value = true, value_parser = follow, help = "go on after the first N traps, or after all (default 0: stop at the first trap)")]
     pub follow: u64,
-    #[arg(long, value_name = "TRAP", value_parser = expect, help = "exit status 0 exactly if it ends so: ecall, ebreak or a trap's cause, exit or exit=VALUE")]
+    #[arg(long, value_name = "END", value_parser = expect, help = "exit status 0 exactly if it ends so: ecall, ebreak or a trap's cause, exit or exit=VALUE")]
     pub expect: Option<Expect>,
     #[arg(long, help = "serve the program's semihosting calls: console and exit (see docs/DESK.md)")]
     pub semihosting: bool,

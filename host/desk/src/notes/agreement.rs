@@ -25,6 +25,12 @@ fn drive(state: &State, map: &PageMap) -> Drive<'static> {
     Drive::start(state.clone(), map, limits, environment).unwrap()
 }
 
+/// All that a watch has seen.
+fn told(watch: &Watch) -> ([Seen; 4], [Count; 4]) {
+    let seen = [watch.shadow, watch.pads, watch.map, watch.masking];
+    (seen, watch.idle)
+}
+
 /// Pushes and pop-checks that go through while the shadow stack is not active, by mode.
 fn idle(state: &State, map: &PageMap) -> [Count; 4] {
     let (mut state, mut idle) = (state.clone(), [Count::default(); 4]);
@@ -85,7 +91,7 @@ fn a_run_sees_what_a_trace_sees() {
             let trace = drive(&state, &map)
                 .trace(&progress, &mut |_| Ok(()))
                 .unwrap();
-            assert_eq!(run.watch, trace.watch, "{hart:x?}");
+            assert_eq!(told(&run.watch), told(&trace.watch), "{hart:x?}");
             assert_eq!(run.after.hart, trace.after.hart);
             if run.watch.shadow != Seen::Off && run.count == STEPS {
                 assert_eq!(run.watch.idle, idle(&state, &map), "{hart:x?}");
@@ -96,14 +102,7 @@ fn a_run_sees_what_a_trace_sees() {
                     .map(|count| count.pushes + count.checks)
                     .sum::<u64>();
             }
-            let Watch {
-                shadow,
-                pads,
-                map,
-                masking,
-                ..
-            } = run.watch;
-            for (row, now) in seen.iter_mut().zip([shadow, pads, map, masking]) {
+            for (row, now) in seen.iter_mut().zip(told(&run.watch).0) {
                 row[now as usize] += 1;
             }
         }

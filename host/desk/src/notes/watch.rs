@@ -37,7 +37,7 @@ impl Seen {
     }
 }
 
-#[derive(Clone, Debug, PartialEq)]
+#[derive(Clone, Debug)]
 pub struct Watch {
     /// A push or pop-check that was active.
     pub shadow: Seen,
@@ -49,6 +49,17 @@ pub struct Watch {
     pub map: Seen,
     /// An access whose address masking changed.
     pub masking: Seen,
+    /// The page that was fetched from last.
+    page: Option<Page>,
+}
+
+/// Where a page of code lies, as long as nothing changes on which a fetch depends.
+#[derive(Clone, Copy, Debug)]
+struct Page {
+    address: u64,
+    /// Mode, satp, mstatus and menvcfg.
+    regime: [u64; 4],
+    physical: u64,
 }
 
 /// What the next step shows if it goes through, and how many steps can be made in one call.
@@ -74,11 +85,12 @@ impl Watch {
             pads: Seen::asked(any(LPE) || rest[word::MSECCFG] & MLPE != 0),
             map: Seen::asked(!map.entries.is_empty()),
             masking: Seen::asked(masks & PMM != 0),
+            page: None,
         }
     }
 
     /// What to look for in the next step; none where nothing can be seen up to the next trap.
-    pub fn ahead(&self, state: &State, map: &PageMap) -> Option<Ahead> {
+    pub fn ahead(&mut self, state: &State, map: &PageMap) -> Option<Ahead> {
         if !self.looks(&state.hart) {
             return None;
         }
@@ -88,7 +100,7 @@ impl Watch {
             mapped: sv39(hart) && state.mode() != M,
             ..Ahead::default()
         };
-        let Some((index, word)) = fetched(state, map) else {
+        let Some((index, word)) = self.fetched(state, map) else {
             return Some(ahead);
         };
         ahead.pad = hart.rest[word::ELP] == 1 && pads_on(hart);
@@ -152,6 +164,37 @@ impl Watch {
         shadow || pads || map || masking
     }
 
+    /// The word that the next step fetches, and its index in memory.
+    fn fetched(&mut self, state: &State, map: &PageMap) -> Option<(usize, u32)> {
+        let physical = match state.mode() == M || !sv39(&state.hart) {
+            true => state.pc(),
+            false => self.translated(state, map)?,
+        };
+        let index = usize::try_from(physical.checked_sub(BASE)?).ok()?;
+        Some((index, at(&state.mem, index)?))
+    }
+
+    /// Where the map has the next word; what was found last is kept, since words follow each other.
+    fn translated(&mut self, state: &State, map: &PageMap) -> Option<u64> {
+        let regime = [word::MODE, word::SATP, word::MSTATUS, word::MENVCFG];
+        let regime = regime.map(|index| state.hart.rest[index]);
+        let (address, offset) = (state.pc() & !(PAGE - 1), state.pc() % PAGE);
+        match self.page {
+            Some(page) if page.address == address && page.regime == regime => {
+                Some(page.physical + offset)
+            }
+            _ => {
+                let physical = state.fetch(map).end.ok()? - offset;
+                self.page = Some(Page {
+                    address,
+                    regime,
+                    physical,
+                });
+                Some(physical + offset)
+            }
+        }
+    }
+
     /// Whether loads and stores are looked at too: for their address, or for a map that only MPRV uses.
     fn looks_at_accesses(&self, hart: &Hart) -> bool {
         let mprv = hart.rest[word::MSTATUS] & MPRV != 0;
@@ -196,17 +239,6 @@ fn shadow(word: u32) -> Option<bool> {
         family::POP => Some(false),
         _ => None,
     }
-}
-
-/// The word that the next step fetches, and its index in memory.
-fn fetched(state: &State, map: &PageMap) -> Option<(usize, u32)> {
-    let bare = state.mode() == M || !sv39(&state.hart);
-    let physical = match bare {
-        true => state.pc(),
-        false => state.fetch(map).end.ok()?,
-    };
-    let index = usize::try_from(physical.checked_sub(BASE)?).ok()?;
-    Some((index, at(&state.mem, index)?))
 }
 
 fn at(mem: &[u8], index: usize) -> Option<u32> {
