@@ -82,6 +82,10 @@ fn no_command(error: &Error, first: &str) -> Failure {
 }
 
 fn no_option(error: &Error, command: &str, option: &str) -> Failure {
+    if command.starts_with('-') {
+        let wrong = "the desk has no such option; 'desk help' lists its commands";
+        return Failure::at(option, wrong);
+    }
     let right = match named(error, ContextKind::SuggestedArg) {
         near if near.is_empty() => format!("'desk help {command}' lists them"),
         near => format!("did you mean {near}?"),
