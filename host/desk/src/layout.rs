@@ -49,21 +49,7 @@ struct Run {
 pub fn lay_out(elf: &mut Elf, wish: &Wish) -> Result<Layout, String> {
     let mut runs = runs(&elf.segments)?;
     few_enough(&runs, wish)?;
-    let mut taken = Vec::new();
-    // Those that keep their frames first, so that no other takes these.
-    let mut moved = Vec::new();
-    for run in &mut runs {
-        if !keeps_frames(run, &elf.segments, wish.memory, &mut taken) {
-            moved.push(run);
-        }
-    }
-    for run in moved {
-        run.frame = free(&mut taken, run.pages.end - run.pages.start, wish)?;
-        for &segment in &run.segments {
-            let segment = &mut elf.segments[segment];
-            segment.physical = run.frame + (segment.address - run.pages.start);
-        }
-    }
+    let mut taken = place(&mut runs, &mut elf.segments, wish)?;
     let mut pages: Vec<_> = runs.iter().map(|run| run.pages.clone()).collect();
     let stack = beside(&mut pages, wish.stack, STACK_END);
     let shadow = beside(&mut pages, wish.shadow, SHADOW_END);
@@ -85,6 +71,28 @@ pub fn lay_out(elf: &mut Elf, wish: &Wish) -> Result<Layout, String> {
         ssp,
         pads: pads(elf),
     })
+}
+
+/// Gives every run its frames, and moves the segments of those that cannot keep theirs; all that is then taken.
+fn place(
+    runs: &mut [Run],
+    segments: &mut [Segment],
+    wish: &Wish,
+) -> Result<Vec<Range<u64>>, String> {
+    let (mut taken, mut moved) = (Vec::new(), Vec::new());
+    // Those that keep their frames first, so that no other takes these.
+    for run in runs {
+        if !keeps_frames(run, segments, wish.memory, &mut taken) {
+            moved.push(run);
+        }
+    }
+    for run in moved {
+        run.frame = free(&mut taken, run.pages.end - run.pages.start, wish)?;
+        for &at in &run.segments {
+            segments[at].physical = run.frame + (segments[at].address - run.pages.start);
+        }
+    }
+    Ok(taken)
 }
 
 /// Puts segments that lie outside memory into the frames where a map has their pages.

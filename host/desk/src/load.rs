@@ -67,58 +67,61 @@ pub fn load(options: &RunOptions) -> Result<Loaded, Failure> {
     let (path, chosen) = (options.image.as_str(), options.format);
     let bytes = image::bytes(path)?;
     let format = chosen.unwrap_or_else(|| told(&bytes));
-    let mut mem = vec![0; options.memory as usize];
-    let mut symbols = Symbols::default();
-    let (mut map, mut layout) = (PageMap::default(), None);
+    let mut loaded = Loaded {
+        image: Image {
+            path: path.into(),
+            format,
+            start: None,
+        },
+        mem: vec![0; options.memory as usize],
+        map: map(options, format)?,
+        layout: None,
+        symbols: Symbols::default(),
+    };
+    loaded.image.start = match format {
+        Format::Hex => intel_hex::load(path, &bytes, &mut loaded.mem, chosen.is_none())?,
+        Format::Raw => {
+            place(path, &image::raw(path, bytes)?, &mut loaded.mem)?;
+            None
+        }
+        Format::Elf => Some(loaded.place_elf(options, &bytes)?),
+    };
+    Ok(loaded)
+}
+
+impl Loaded {
+    /// Puts an ELF file into memory, by a map that is laid out for it or by the one that is there; gives its entry point.
+    fn place_elf(&mut self, options: &RunOptions, bytes: &[u8]) -> Result<u64, Failure> {
+        let path = options.image.as_str();
+        let at = |wrong| Failure::at(path, wrong);
+        let mut elf = Elf::read(path, image::whole(path, bytes)?)?;
+        if let MapWish::Auto(_) = options.map_wish() {
+            let layout = lay_out(&mut elf, &options.wish()).map_err(at)?;
+            self.map = PageMap::parse("--map auto", &layout.text)?;
+            self.layout = Some(layout);
+        } else {
+            elf.leave_out_headers();
+            layout::follow(&mut elf, &self.map, options.memory).map_err(at)?;
+        }
+        elf.place(path, &mut self.mem)?;
+        self.symbols = Symbols::new(path, &elf)?;
+        Ok(elf.entry)
+    }
+}
+
+/// The page map that a file gives; one that is laid out comes with the ELF file.
+fn map(options: &RunOptions, format: Format) -> Result<PageMap, Failure> {
     match options.map_wish() {
-        MapWish::None => (),
-        MapWish::File(file) => map = setup::map(file)?,
-        MapWish::Auto(_) if format == Format::Elf => (),
-        MapWish::Auto(option) => {
+        MapWish::File(file) => setup::map(file),
+        MapWish::Auto(option) if format != Format::Elf => {
+            let path = &options.image;
             let wrong = format!(
                 "it lays out the segments of an ELF file, and {path} is none; give --map FILE"
             );
-            return Err(Failure::at(option, wrong));
+            Err(Failure::at(option, wrong))
         }
+        MapWish::Auto(_) | MapWish::None => Ok(PageMap::default()),
     }
-    let start = match format {
-        Format::Hex => intel_hex::load(path, &bytes, &mut mem, chosen.is_none())?,
-        Format::Raw => {
-            place(path, &image::raw(path, bytes)?, &mut mem)?;
-            None
-        }
-        Format::Elf => {
-            let mut elf = Elf::read(path, image::whole(path, &bytes)?)?;
-            match options.map_wish() {
-                MapWish::Auto(_) => {
-                    let laid = lay_out(&mut elf, &options.wish());
-                    let laid = laid.map_err(|wrong| Failure::at(path, wrong))?;
-                    map = PageMap::parse("--map auto", &laid.text)?;
-                    layout = Some(laid);
-                }
-                _ => {
-                    elf.leave_out_headers();
-                    let followed = layout::follow(&mut elf, &map, options.memory);
-                    followed.map_err(|wrong| Failure::at(path, wrong))?;
-                }
-            }
-            elf.place(path, &mut mem)?;
-            symbols = Symbols::new(path, &elf)?;
-            Some(elf.entry)
-        }
-    };
-    let image = Image {
-        path: path.into(),
-        format,
-        start,
-    };
-    Ok(Loaded {
-        image,
-        mem,
-        map,
-        layout,
-        symbols,
-    })
 }
 
 /// What a file is, by its content.

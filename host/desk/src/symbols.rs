@@ -11,7 +11,7 @@ use addr2line::gimli::{EndianRcSlice, RunTimeEndian};
 use addr2line::Context;
 use object::{Object, ObjectSymbol, SymbolKind, SymbolSection};
 use serde_json::Value;
-use std::path::Path;
+use std::path::{Path, PathBuf};
 
 /// Bytes of a call: every instruction of this hart has four.
 const CALL: u64 = 4;
@@ -58,6 +58,8 @@ pub struct Symbols {
     lines: Option<Context<EndianRcSlice<RunTimeEndian>>>,
     /// The address behind the program's data, where its heap may begin.
     pub end: Option<u64>,
+    /// Where the caller stands: a file below is shown from there.
+    here: PathBuf,
 }
 
 impl Symbols {
@@ -84,6 +86,7 @@ impl Symbols {
                 false => None,
             },
             end: end(elf),
+            here: std::env::current_dir().unwrap_or_default(),
         })
     }
 
@@ -110,11 +113,7 @@ impl Symbols {
         self.segment(address)?;
         let location = self.lines.as_ref()?.find_location(address).ok()??;
         let (file, line) = (Path::new(location.file?), location.line?);
-        // As short as it is right from where the caller stands.
-        let here = std::env::current_dir().ok();
-        let file = here
-            .and_then(|here| file.strip_prefix(here).ok())
-            .unwrap_or(file);
+        let file = file.strip_prefix(&self.here).unwrap_or(file);
         Some(format!("{}:{line}", file.display()))
     }
 
@@ -168,7 +167,7 @@ impl Symbols {
     }
 
     /// The virtual address of a symbol.
-    #[allow(dead_code)] // for --dump and --trace-from by symbol
+    #[cfg_attr(not(test), allow(dead_code))] // for options that take a symbol
     pub fn address(&self, name: &str) -> Result<u64, String> {
         let all = || self.sized.iter().chain(&self.labels);
         let mut found: Vec<u64> = all()
@@ -266,4 +265,47 @@ fn last(symbols: &[Symbol], address: u64) -> Option<&Symbol> {
     let nearest = symbols[..behind].last()?.address;
     let first = symbols.partition_point(|symbol| symbol.address < nearest);
     symbols.get(first)
+}
+
+#[cfg(test)]
+#[path = "../tests/common/elf.rs"]
+#[allow(dead_code)]
+mod made;
+
+#[cfg(test)]
+mod tests {
+    use super::made::{program, Symbol, FUNCTION, LABEL, OBJECT};
+    use super::*;
+
+    #[test]
+    fn a_name_has_one_address() {
+        let mut elf = program(&[0; 8]);
+        elf.symbols = vec![
+            Symbol("unlock", 0x8000_0000, 8, FUNCTION),
+            Symbol("table", 0x8000_0010, 8, OBJECT),
+            Symbol("once", 0x8000_0008, 0, LABEL),
+            Symbol("once", 0x8000_000c, 0, LABEL),
+            Symbol("outside", 0x9000_0000, 0, LABEL),
+        ];
+        let bytes = elf.bytes();
+        let symbols = Symbols::new("p.elf", &Elf::read("p.elf", &bytes).unwrap()).unwrap();
+        let address = |name| symbols.address(name);
+        assert_eq!(address("unlock"), Ok(0x8000_0000));
+        assert_eq!(address("table"), Ok(0x8000_0010));
+        let wrong = |name| address(name).unwrap_err();
+        assert_eq!(
+            wrong("once"),
+            "'once' names two places, 0x80000008 and 0x8000000c; give the address"
+        );
+        assert_eq!(
+            wrong("unlokc"),
+            "there is no symbol 'unlokc'; did you mean unlock?"
+        );
+        assert_eq!(
+            wrong("outside"),
+            "there is no symbol 'outside'; 'nm' lists those of the file"
+        );
+        let none = Symbols::default().address("main").unwrap_err();
+        assert!(none.contains("there are no symbols"), "{none}");
+    }
 }

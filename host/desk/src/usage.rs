@@ -9,49 +9,51 @@ use std::error::Error as _;
 /// The line for what clap found wrong; `command` is the name that was given first.
 pub fn failure(error: &Error, command: &str) -> Failure {
     let argument = named(error, ContextKind::InvalidArg);
-    // clap writes an option with its value, as --memory <SIZE>.
-    let (option, value) = argument.split_once(' ').unwrap_or((&argument, ""));
-    let value = value.trim_matches(&['<', '>'][..]);
+    let usage = help::usage(command);
     match error.kind() {
         ErrorKind::MissingSubcommand | ErrorKind::DisplayHelpOnMissingArgumentOrSubcommand => {
-            Failure::Input(format!(
-                "no command is given; write desk {}",
-                help::commands("or")
-            ))
+            let commands = help::commands("or");
+            Failure::Input(format!("no command is given; write desk {commands}"))
         }
         ErrorKind::InvalidSubcommand => no_command(error, command),
-        ErrorKind::UnknownArgument if option.starts_with('-') => no_option(error, command, option),
+        ErrorKind::UnknownArgument if argument.starts_with('-') => {
+            no_option(error, command, &argument)
+        }
         ErrorKind::UnknownArgument => {
-            let wrong = format!("'{argument}' is not needed; write {}", help::usage(command));
+            let wrong = format!("'{argument}' is not needed; write {usage}");
             Failure::at(command, wrong)
         }
         ErrorKind::MissingRequiredArgument => {
             let missing = missing(&argument);
-            let wrong = format!("{missing} is missing; write {}", help::usage(command));
-            Failure::at(command, wrong)
+            Failure::at(command, format!("{missing} is missing; write {usage}"))
         }
-        ErrorKind::InvalidValue | ErrorKind::ValueValidation => {
-            Failure::at(option, wrong_value(error, option, value))
+        _ => wrong_option(error, &argument),
+    }
+}
+
+/// The line for an option that is there and is not right. clap writes it with its value, as --memory <SIZE>.
+fn wrong_option(error: &Error, argument: &str) -> Failure {
+    let (option, value) = argument.split_once(' ').unwrap_or((argument, ""));
+    let value = value.trim_matches(&['<', '>'][..]);
+    let prior = named(error, ContextKind::PriorArg);
+    let wrong = match error.kind() {
+        ErrorKind::InvalidValue | ErrorKind::ValueValidation => wrong_value(error, option, value),
+        ErrorKind::TooManyValues => "it takes no value; write it alone".into(),
+        ErrorKind::ArgumentConflict if prior.is_empty() || prior == argument => {
+            "it is given twice; give it once".into()
         }
-        ErrorKind::TooManyValues => Failure::at(option, "it takes no value; write it alone"),
-        ErrorKind::ArgumentConflict => match named(error, ContextKind::PriorArg) {
-            prior if prior.is_empty() || prior == argument => {
-                Failure::at(option, "it is given twice; give it once")
-            }
-            prior => {
-                let prior = prior.split(' ').next().unwrap_or_default();
-                Failure::at(
-                    option,
-                    format!("it does not go with {prior}; leave one out"),
-                )
-            }
-        },
+        ErrorKind::ArgumentConflict => {
+            let prior = prior.split(' ').next().unwrap_or_default();
+            format!("it does not go with {prior}; leave one out")
+        }
         _ => {
+            // What the desk's options cannot lead to; clap's own words are better than none.
             let said = error.to_string();
             let line = said.lines().next().unwrap_or_default();
-            Failure::Input(line.trim_start_matches("error: ").into())
+            return Failure::Input(line.trim_start_matches("error: ").into());
         }
-    }
+    };
+    Failure::at(option, wrong)
 }
 
 /// What the error has of this kind, as text.
@@ -80,6 +82,10 @@ fn no_command(error: &Error, first: &str) -> Failure {
 }
 
 fn no_option(error: &Error, command: &str, option: &str) -> Failure {
+    if command.starts_with('-') {
+        let wrong = "the desk has no such option; 'desk help' lists its commands";
+        return Failure::at(option, wrong);
+    }
     let right = match named(error, ContextKind::SuggestedArg) {
         near if near.is_empty() => format!("'desk help {command}' lists them"),
         near => format!("did you mean {near}?"),

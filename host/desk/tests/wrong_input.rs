@@ -15,6 +15,9 @@ fn commands() {
         ("help run demo", "help: 'demo' is not needed; name one command"),
         ("demo now", "demo: 'now' is not needed; write desk demo [--svg FILE]"),
         ("demo --svg", "--svg: its FILE is missing; write --svg FILE"),
+        ("--version", "--version: the desk has no such option; 'desk help' lists its commands"),
+        ("-v run ok.bin", "-v: the desk has no such option; 'desk help' lists its commands"),
+        ("help --all", "--all: the desk has no such command; the commands are run, frames, demo, disasm, hex and help"),
         ("run", "run: the image is missing; write desk run IMAGE [options]"),
         ("run ok.bin user.map", "run: 'user.map' is not needed; write desk run IMAGE [options]"),
     ]);

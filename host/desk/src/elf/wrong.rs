@@ -38,13 +38,10 @@ pub fn told(bytes: &[u8]) -> bool {
 /// Whether it is a linked ELF file for RV64, as far as its header says.
 pub fn header(bytes: &[u8]) -> Result<(), String> {
     let number = |at: usize| u16::from(bytes[at]) | u16::from(bytes[at + 1]) << 8;
-    if !told(bytes) {
-        let right = "give an ELF file, or leave out --format";
-        return Err(format!(
-            "it does not begin with the bytes 7f 45 4c 46, as an ELF file does; {right}"
-        ));
-    }
     let least = size_of::<FileHeader64<LittleEndian>>();
+    if !told(bytes) {
+        return Err("it does not begin with the bytes 7f 45 4c 46, as an ELF file does; give an ELF file, or leave out --format".into());
+    }
     if bytes.len() < MACHINE + 2 {
         return Err(cut_off(bytes.len(), least));
     }
@@ -54,16 +51,7 @@ pub fn header(bytes: &[u8]) -> Result<(), String> {
                 .into(),
         );
     }
-    match number(MACHINE) {
-        RISCV => (),
-        other => {
-            let named = MACHINES.iter().find(|machine| machine.0 == other);
-            let name = named.map_or(format!("machine {other}"), |machine| machine.1.into());
-            return Err(format!(
-                "it is an ELF file for {name}, and this hart is RISC-V; compile for riscv64"
-            ));
-        }
-    }
+    machine(number(MACHINE))?;
     if bytes[CLASS] == 1 {
         return Err("it is an ELF file for RV32, and this hart is RV64; compile with -march=rv64i.. -mabi=lp64".into());
     }
@@ -78,6 +66,17 @@ pub fn header(bytes: &[u8]) -> Result<(), String> {
         4 => Err("it is a core file (type CORE) and no program; give the program".into()),
         _ => Ok(()),
     }
+}
+
+fn machine(number: u16) -> Result<(), String> {
+    if number == RISCV {
+        return Ok(());
+    }
+    let named = MACHINES.iter().find(|machine| machine.0 == number);
+    let name = named.map_or(format!("machine {number}"), |machine| machine.1.into());
+    Err(format!(
+        "it is an ELF file for {name}, and this hart is RISC-V; compile for riscv64"
+    ))
 }
 
 fn cut_off(length: usize, header: usize) -> String {

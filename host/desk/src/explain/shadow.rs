@@ -1,7 +1,7 @@
 //! The trap of a pop-check that finds another return address, and the calls that the shadow stack still has.
 
 use super::{Rows, Verdict};
-use crate::facts::{hex, object};
+use crate::facts::{hex, object, Facts};
 use crate::map::PageMap;
 use crate::place::{Access, Kind, Path};
 use crate::state::State;
@@ -26,78 +26,84 @@ pub fn mismatch(before: &State, map: &PageMap, symbols: &Symbols, pop: Pop) -> O
     if used == pushed {
         return None;
     }
+    let stack = stack(before, map, pop.path.transformed);
+    Some(Verdict {
+        cause: 18,
+        tval: 3,
+        rows: rows(before, symbols, &pop, used, &stack),
+        facts: facts(before, symbols, &pop, used, &stack),
+    })
+}
+
+fn rows(before: &State, symbols: &Symbols, pop: &Pop, used: u64, stack: &[Slot]) -> Rows {
     let (name, at, physical) = (register(pop.source), pop.path.transformed, pop.physical);
-    let stack = stack(before, map, at);
     let returns = |address| symbols.returns(address, before.space());
     let goes = symbols.told(used, before.space());
+    let pushed = returns(before.bytes(physical, 8));
     let why = "shadow stack mismatch: the return address is not the one that was pushed";
+    let lies = format!("virtual {at:#x} (ssp), physical {physical:#x}");
     let mut rows = vec![
         ("why", why.into()),
         (
             "used",
             format!("{goes} (in {name}: the return would go there)"),
         ),
-        (
-            "pushed",
-            format!("{} (on the shadow stack)", returns(pushed)),
-        ),
-        (
-            "lies at",
-            format!("virtual {at:#x} (ssp), physical {physical:#x}"),
-        ),
+        ("pushed", format!("{pushed} (on the shadow stack)")),
+        ("lies at", lies),
     ];
-    rows.extend(callers(&stack, returns));
+    rows.extend(callers(stack, returns));
     rows.extend(pop.path.entry.map(|entry| entry.row()));
-    let frame = |&(at, address): &(u64, u64)| {
-        let call = symbols.call(address, before.space());
-        object(
-            [("at", hex(at)), ("returns_to", hex(address))]
-                .into_iter()
-                .chain(call),
-        )
+    rows
+}
+
+fn facts(before: &State, symbols: &Symbols, pop: &Pop, used: u64, stack: &[Slot]) -> Facts {
+    let space = before.space();
+    let slot = |slot: &Slot| {
+        let own = [("at", hex(slot.at)), ("returns_to", hex(slot.pushed))];
+        object(own.into_iter().chain(symbols.call(slot.pushed, space)))
     };
-    let mut facts = vec![
-        ("register", Value::from(name)),
+    vec![
+        ("register", Value::from(register(pop.source))),
         ("used", hex(used)),
-        ("pushed", hex(pushed)),
-        ("virtual", hex(at)),
-        ("physical", hex(physical)),
-    ];
-    let place = symbols.facts(used, before.space());
-    facts.push(("used_at", object(place)));
-    facts.push(("call_stack", stack.iter().map(frame).collect()));
-    Some(Verdict {
-        cause: 18,
-        tval: 3,
-        rows,
-        facts,
-    })
+        ("pushed", hex(before.bytes(pop.physical, 8))),
+        ("virtual", hex(pop.path.transformed)),
+        ("physical", hex(pop.physical)),
+        ("used_at", object(symbols.facts(used, space))),
+        ("call_stack", stack.iter().map(slot).collect()),
+    ]
+}
+
+/// A word of the shadow stack, and its address.
+struct Slot {
+    at: u64,
+    pushed: u64,
 }
 
 /// What the shadow stack has from `ssp` upward, each with its address: up to where no pop-check is permitted. Zeros at the end were
 /// never pushed.
-fn stack(before: &State, map: &PageMap, ssp: u64) -> Vec<(u64, u64)> {
+fn stack(before: &State, map: &PageMap, ssp: u64) -> Vec<Slot> {
     let slots = (0..).map(|slot: u64| ssp.wrapping_add(8 * slot));
-    let pushed = |address| {
+    let read = |at| {
         let pop = Access {
             kind: Kind::Pop,
             width: 8,
-            address,
+            address: at,
         };
         let physical = before.path(map, pop).end.ok()?;
-        Some((address, before.bytes(physical, 8)))
+        let pushed = before.bytes(physical, 8);
+        Some(Slot { at, pushed })
     };
-    let mut stack: Vec<_> = slots.map_while(pushed).collect();
-    let used = stack.iter().rposition(|slot| slot.1 != 0);
+    let mut stack: Vec<Slot> = slots.map_while(read).collect();
+    let used = stack.iter().rposition(|slot| slot.pushed != 0);
     stack.truncate(used.map_or(0, |last| last + 1));
     stack
 }
 
 /// The calls behind the one that was to return, the nearest first.
-fn callers(stack: &[(u64, u64)], returns: impl Fn(u64) -> String) -> Rows {
+fn callers(stack: &[Slot], returns: impl Fn(u64) -> String) -> Rows {
     let callers = stack.get(1..).unwrap_or_default();
     let label = |at| if at == 0 { "callers" } else { "" };
-    let row = |(at, slot): (usize, &(u64, u64))| (label(at), returns(slot.1));
+    let row = |(at, slot): (usize, &Slot)| (label(at), returns(slot.pushed));
     let mut rows: Rows = callers.iter().take(SHOWN).enumerate().map(row).collect();
     if callers.len() > SHOWN {
         rows.push(("", format!("and {} more", callers.len() - SHOWN)));
