@@ -116,15 +116,10 @@ impl<'a> Drive<'a> {
         while self.left() > 0 {
             past.renew(&self.state);
             let hart = self.state.hart;
-            let ahead = self.watch.ahead(&self.state, self.map);
             // Behind a long call a single step shows whether the hart still moves.
             let most = if long { 1 } else { MOST_STEPS };
-            let most = ahead.as_ref().map_or(most, |ahead| ahead.steps);
-            let answer = self.call(most.min(self.left()))?;
+            let answer = self.watched(most.min(self.left()))?;
             long = answer.count == MOST_STEPS;
-            if let Some(ahead) = ahead {
-                self.watch.saw(&ahead, answer);
-            }
             past.stepped(answer.count);
             match self.next(&hart, answer)? {
                 Next::On => (),
@@ -154,11 +149,7 @@ impl<'a> Drive<'a> {
         let mut before = self.state.clone();
         while self.left() > 0 {
             before.hart = self.state.hart;
-            let ahead = self.watch.ahead(&before, self.map);
-            let answer = self.call(1)?;
-            if let Some(ahead) = ahead {
-                self.watch.saw(&ahead, answer);
-            }
+            let answer = self.watched(1)?;
             let written = explain::written(&before, self.map).filter(|_| !answer.trapped);
             let written = written.unwrap_or(0..0);
             let (number, after) = (self.count, &self.state);
@@ -198,6 +189,16 @@ impl<'a> Drive<'a> {
 
     fn stops_at_trap(&self) -> bool {
         self.followed >= self.limits.follow
+    }
+
+    /// At most so many steps in one call, or fewer where the watch looks at what comes.
+    fn watched(&mut self, most: u64) -> Result<Answer, Failure> {
+        let Some(ahead) = self.watch.ahead(&self.state, self.map) else {
+            return self.call(most);
+        };
+        let answer = self.call(ahead.steps.min(most))?;
+        self.watch.saw(&ahead, answer);
+        Ok(answer)
     }
 
     /// One call of the proved run.

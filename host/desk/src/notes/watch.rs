@@ -157,10 +157,10 @@ impl Watch {
             Seen::NotYet => true,
             Seen::Yes => !(user && shadow_stack_on(hart)),
         };
-        let pads = self.pads == Seen::NotYet && !(user && !pads_on(hart));
-        let map = self.map == Seen::NotYet && !(user && !sv39(hart));
-        let masking =
-            self.masking == Seen::NotYet && !(user && hart.rest[word::SENVCFG] & PMM == 0);
+        let pads = self.pads == Seen::NotYet && (!user || pads_on(hart));
+        let map = self.map == Seen::NotYet && (!user || sv39(hart));
+        let masked = hart.rest[word::SENVCFG] & PMM != 0;
+        let masking = self.masking == Seen::NotYet && (!user || masked);
         shadow || pads || map || masking
     }
 
