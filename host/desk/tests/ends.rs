@@ -94,9 +94,8 @@ fn ctrl_c_ends_a_run_with_its_report() {
             .spawn()
             .unwrap();
         sleep(Duration::from_millis(400));
-        let pressed = Command::new("kill")
-            .args(["-INT", &child.id().to_string()])
-            .status();
+        let kill = format!("kill -INT {}", child.id());
+        let pressed = Command::new("sh").args(["-c", &kill]).status();
         assert!(pressed.unwrap().success());
         let mut out = String::new();
         child
