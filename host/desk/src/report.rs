@@ -129,7 +129,7 @@ fn rows(end: &End, job: &Job, trap: Option<&Trap>) -> Rows {
     });
     rows.extend(start(job).map(|start| ("start", start)));
     rows.extend(user(job));
-    let hints = hints::hints(end, trap, &job.state.hart, &job.map);
+    let hints = hints::hints(end, trap, job);
     rows.extend(hints.into_iter().map(|hint| ("hint", hint)));
     rows.extend(end.environment.row().map(|calls| ("calls", calls)));
     rows

@@ -701,3 +701,32 @@ fn without_an_end_there_is_no_break() {
     let unserved = &object.at("calls").at("unserved").list()[0];
     assert_eq!(unserved.at("call").text(), "system call 214 brk");
 }
+
+/// A program that makes calls without the option that serves them is told which.
+#[test]
+fn a_call_that_nothing_serves_has_a_hint() {
+    let desk = Desk::new("unserved-hint");
+    let hint = |words: &[u32], options: &str| {
+        desk.image("p.bin", words);
+        let said = desk.run(&format!("run p.bin --memory 4K {options}")).out;
+        let row = said
+            .lines()
+            .find_map(|line| line.strip_prefix("  hint      "));
+        row.unwrap_or_default().to_string()
+    };
+    let semihosting = "this is a semihosting call; --semihosting serves it";
+    assert_eq!(hint(&[SLLI, EBREAK, SRAI], "--syscalls"), semihosting);
+    assert_eq!(hint(&[NOP, EBREAK, SRAI], ""), "");
+    let exit = "a7 is 93, the system call exit; --syscalls serves it";
+    assert_eq!(hint(&[ECALL], "--x a7=93 --semihosting"), exit);
+    assert_eq!(hint(&[ECALL], "--x a7=62"), "");
+    let other =
+        "--syscalls serves ECALLs from the mode in which the run began, and this is another";
+    assert_eq!(
+        hint(
+            &[MRET, NOP, ECALL],
+            "--syscalls --csr mepc=0x80000008 --x a7=93"
+        ),
+        other
+    );
+}
