@@ -9,7 +9,7 @@ use crate::map::PageMap;
 use crate::state::State;
 use sporhulma::{Hart, MOST_STEPS};
 
-/// Steps, and calls of the environment, after which a new copy is due.
+/// Calls of the environment after which a new copy is due, as it is after a run's most steps, or as many written bytes as memory has.
 const MOST_CALLS: usize = 1000;
 
 /// What the environment left after so many steps.
@@ -24,8 +24,9 @@ pub struct Past {
     /// Steps since the start of all this, or since the last call.
     steps: u64,
     calls: Vec<Call>,
-    /// All steps since the copy.
+    /// All steps since the copy, and all bytes that the environment wrote.
     since: u64,
+    written: usize,
 }
 
 impl Past {
@@ -35,18 +36,20 @@ impl Past {
             steps: 0,
             calls: Vec::new(),
             since: 0,
+            written: 0,
         }
     }
 
     /// Takes a new copy if one is due.
     pub fn renew(&mut self, state: &State) {
-        if self.since < MOST_STEPS && self.calls.len() < MOST_CALLS {
+        let few = self.calls.len() < MOST_CALLS && self.written < state.mem.len();
+        if self.since < MOST_STEPS && few {
             return;
         }
         self.start.hart = state.hart;
         self.start.mem.copy_from_slice(&state.mem);
         self.calls.clear();
-        (self.steps, self.since) = (0, 0);
+        (self.steps, self.since, self.written) = (0, 0, 0);
     }
 
     /// The hart has made so many steps.
@@ -57,6 +60,7 @@ impl Past {
 
     /// The environment has served a call: it left this hart, and wrote this.
     pub fn served(&mut self, hart: &Hart, writes: Vec<Write>) {
+        self.written += writes.iter().map(|write| write.1.len()).sum::<usize>();
         self.calls.push(Call {
             steps: self.steps,
             hart: *hart,

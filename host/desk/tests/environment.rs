@@ -730,3 +730,44 @@ fn a_call_that_nothing_serves_has_a_hint() {
         other
     );
 }
+
+/// A heap that goes up and down by many pages, over and over: more bytes than the desk keeps in mind before it takes a new copy.
+#[test]
+fn a_heap_that_goes_up_and_down() {
+    let desk = Desk::new("up-and-down");
+    let words = [
+        0x0004_8513, // mv a0,s1
+        ECALL,
+        0x0009_0513, // mv a0,s2
+        ECALL,
+        0xfff4_0413, // addi s0,s0,-1
+        0xfe04_16e3, // bnez s0,.-20
+        0x0009_3503, // ld a0,0(s2)
+        0x0005_3503, // ld a0,0(a0)
+    ];
+    let mut program = elf::program(&words);
+    program
+        .loads
+        .push(elf::load(0x8000_1000, 0x8000_1000, "rw", &[7, 0]));
+    desk.file("p.elf", program.bytes());
+    let options =
+        "--memory 64K --syscalls --x a7=214 --x s0=50 --x s1=0x8000f000 --x s2=0x80001008";
+    let outcome = desk.run(&format!("run p.elf {options}"));
+    assert!(
+        outcome
+            .out
+            .starts_with("Stopped by a trap in step 302: cause 5"),
+        "{}",
+        outcome.out
+    );
+    assert!(
+        outcome.out.contains("load of 8 bytes at 0x0"),
+        "{}",
+        outcome.out
+    );
+    assert!(
+        outcome.out.contains("calls     100 served"),
+        "{}",
+        outcome.out
+    );
+}
