@@ -309,6 +309,38 @@ fn a_delegated_call_is_served_too() {
     );
 }
 
+/// Who called is told by what the trap to S saved, whatever an earlier trap to M has left.
+#[test]
+fn a_delegated_call_has_its_own_mode_and_address() {
+    let desk = Desk::new("delegated-mode");
+    program(&desk, &[ECALL, EBREAK], b"text");
+    let delegated = "--csr medeleg=0x108 --csr mstatus=0x1800 --csr mepc=0x80000100";
+    let options = "--syscalls --x a7=64 --x a0=1 --x a1=0x20000 --x a2=4 --json";
+    let outcome = desk.run(&format!("{RUN} {delegated} {options}"));
+    let object = Reader::whole(&outcome.out);
+    assert_eq!((outcome.err.as_str(), a0(&object)), ("text", 4));
+    program(&desk, &[SLLI, EBREAK, SRAI, ECALL], b"text");
+    let options = "--semihosting --x a0=4 --x a1=0x20000 --expect ecall --json";
+    let outcome = desk.run(&format!("{RUN} {delegated} {options}"));
+    assert_eq!((outcome.err.as_str(), outcome.status), ("text", 0));
+}
+
+/// A buffer may end at the last address, and does not go on at the first.
+#[test]
+fn a_buffer_at_the_end_of_all_addresses() {
+    let desk = Desk::new("last-address");
+    program(&desk, &[ECALL, EBREAK], &[b'x'; 4096]);
+    let ends = "0xfffffffffffff000 -> 0x80001000 rw u\n0x0 -> 0x80001000 rw u\n";
+    desk.file("apart.map", format!("{APART}{ends}"));
+    let write = |length: u64| {
+        let registers = format!("--x a7=64 --x a0=1 --x a1=-2 --x a2={length}");
+        let outcome = desk.run(&format!("{RUN} --syscalls {registers} --json"));
+        (outcome.err.clone(), a0(&Reader::whole(&outcome.out)))
+    };
+    assert_eq!(write(2), ("xx".to_string(), 2));
+    assert_eq!(write(3), (String::new(), EFAULT));
+}
+
 /// ECALLs of the mode in which the run began are the environment's, others are the program's own.
 #[test]
 fn which_ecalls_are_served() {
