@@ -1,22 +1,21 @@
 //! `desk demo`: the incident of the README, run by crate `demo`.
 
 use crate::failure::Failure;
-use crate::options::{Given, Spec};
+use crate::run_options::some_text;
+use clap::Args;
 use std::io::Write;
 use std::path::Path;
 
 /// The options of `desk demo`.
+#[derive(Args)]
 #[rustfmt::skip]
-pub const OPTIONS: &[Spec] = &[
-    Spec { name: "--svg", value: "FILE", example: "torque.svg", many: false, about: "where the picture is written (default torque.svg in the current folder)" },
-];
+pub struct DemoOptions {
+    #[arg(long, value_name = "FILE", default_value = "torque.svg", hide_default_value = true, value_parser = some_text(), help = "where the picture is written (default torque.svg in the current folder)")]
+    svg: String,
+}
 
-pub fn run(given: &Given, out: &mut dyn Write) -> Result<u8, Failure> {
-    if let Some(extra) = given.places.first() {
-        let wrong = format!("'{extra}' is not needed; write desk demo [--svg FILE]");
-        return Err(Failure::at("demo", wrong));
-    }
-    let svg = Path::new(given.one("--svg").unwrap_or("torque.svg"));
+pub fn run(options: &DemoOptions, out: &mut dyn Write) -> Result<u8, Failure> {
+    let svg = Path::new(&options.svg);
     // Gathered first: a reader that closes the pipe must not keep the picture from being written.
     let mut said = Vec::new();
     let ended = demo::run(&mut said, svg);

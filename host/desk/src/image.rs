@@ -1,14 +1,24 @@
 //! Files that are read: images and texts.
 
+use crate::elf;
 use crate::failure::Failure;
-use crate::intel_hex::MOST;
+use crate::intel_hex::{self, MOST};
 use crate::refusal::MEMORY;
 use std::fs::File;
 use std::io::Read;
 
-/// A raw image, at most as large as the largest memory.
+/// A raw image, at most as large as the largest memory, and not a file of another kind.
 pub fn image(path: &str) -> Result<Vec<u8>, Failure> {
-    raw(path, bytes(path)?)
+    let bytes = bytes(path)?;
+    if elf::told(&bytes) {
+        let wrong = "it is an ELF file; give a raw image (objcopy -O binary makes one)";
+        return Err(Failure::at(path, wrong));
+    }
+    if intel_hex::told(&bytes) {
+        let wrong = "it is Intel HEX; give a raw image";
+        return Err(Failure::at(path, wrong));
+    }
+    raw(path, bytes)
 }
 
 /// What a file holds, if it can be a raw image.
@@ -30,6 +40,17 @@ pub fn raw(path: &str, bytes: Vec<u8>) -> Result<Vec<u8>, Failure> {
 pub fn text(path: &str) -> Result<String, Failure> {
     let wrong = |_| Failure::at(path, "it is no text (not UTF-8); give a text file");
     String::from_utf8(bytes(path)?).map_err(wrong)
+}
+
+/// What a file holds, if that is all of it.
+pub fn whole<'a>(path: &str, bytes: &'a [u8]) -> Result<&'a [u8], Failure> {
+    match bytes.len() as u64 {
+        0..=MOST => Ok(bytes),
+        _ => {
+            let wrong = format!("the file has more than {MOST} bytes (64M); take out debug information with objcopy --strip-debug");
+            Err(Failure::at(path, wrong))
+        }
+    }
 }
 
 /// What a file holds, but no more than shows that it is too large for all that the desk reads.

@@ -1,22 +1,30 @@
 //! The desk: the program an engineer uses. `desk help` and docs/DESK.md say what it does.
 
 mod bits;
+mod commands;
 mod demonstrate;
 mod drive;
 mod dump;
+mod elf;
+mod ends;
+mod environment;
 mod explain;
+mod facts;
 mod failure;
 mod frames;
 mod help;
+mod hints;
 mod image;
 mod intel_hex;
-mod json;
+mod interrupt;
+mod layout;
 mod load;
 mod map;
 mod names;
+mod notes;
 mod number;
-mod options;
 mod output;
+mod past;
 mod place;
 mod progress;
 mod refusal;
@@ -26,10 +34,15 @@ mod run_options;
 mod setup;
 mod start;
 mod state;
+mod symbols;
 mod text;
 mod trace;
+mod usage;
 mod words;
 
+use clap::error::ErrorKind;
+use clap::Parser;
+use commands::{Command, Desk};
 use failure::Failure;
 use intel_hex::write;
 use std::ffi::OsString;
@@ -71,35 +84,20 @@ fn arguments() -> Result<Vec<String>, Failure> {
 
 /// Does what the arguments ask for; the answer is the exit status.
 fn command(arguments: &[String], out: &mut dyn Write) -> Result<u8, Failure> {
-    let Some((name, rest)) = arguments.split_first() else {
-        return Err(Failure::Input(
-            "no command is given; write desk run, frames, demo, disasm, hex or help".into(),
-        ));
-    };
-    let asks_help = |argument: &String| ["--help", "-h"].contains(&argument.as_str());
-    if asks_help(name) || rest.iter().any(asks_help) {
-        let about = (!asks_help(name)).then_some(name.as_str());
-        out.write_all(help::text(about)?.as_bytes())?;
-        return Ok(0);
-    }
-    let parse = |specs| options::parse(name, specs, rest);
-    match name.as_str() {
-        "run" => run::run(&parse(run_options::OPTIONS)?, out),
-        "frames" => frames::run(&parse(frames::OPTIONS)?, out),
-        "demo" => demonstrate::run(&parse(demonstrate::OPTIONS)?, out),
-        "disasm" => words::run(&parse(words::OPTIONS)?, out),
-        "hex" => write::run(&parse(write::OPTIONS)?, out),
-        "help" => {
-            let places = parse(&[])?.places;
-            if let [_, extra, ..] = places.as_slice() {
-                return Err(Failure::at(
-                    "help",
-                    format!("'{extra}' is not needed; name one command"),
-                ));
-            }
-            out.write_all(help::text(places.first().map(String::as_str))?.as_bytes())?;
+    let desk = std::iter::once("desk").chain(arguments.iter().map(String::as_str));
+    match Desk::try_parse_from(desk).map(|desk| desk.command) {
+        Ok(Command::Run(options)) => run::run(&options, out),
+        Ok(Command::Frames(options)) => frames::run(&options, out),
+        Ok(Command::Demo(options)) => demonstrate::run(&options, out),
+        Ok(Command::Disasm(options)) => words::run(&options, out),
+        Ok(Command::Hex(options)) => write::run(&options, out),
+        Err(error) if error.kind() == ErrorKind::DisplayHelp => {
+            write!(out, "{error}")?;
             Ok(0)
         }
-        other => Err(help::unknown(other)),
+        Err(error) => {
+            let command = arguments.first().map_or("", String::as_str);
+            Err(usage::failure(&error, command))
+        }
     }
 }

@@ -1,4 +1,5 @@
-//! The page map as a small text file: a line a page, `VIRTUAL -> PHYSICAL FLAGS`, comments from `#` on.
+//! The page map as a small text file: a line a page, `VIRTUAL -> PHYSICAL FLAGS`, or many, `FIRST..END -> PHYSICAL FLAGS`; comments from
+//! `#` on.
 //!
 //! FLAGS are letters of the Sv39 leaf (r w x u g, and v a d, which are set unless `!v`, `!a` or `!d` clears
 //! them), or the name `shadow` for W alone. `VIRTUAL -> leaf WORD` gives the leaf word whole, so that every
@@ -82,26 +83,34 @@ impl PageMap {
     /// Reads the text of a map; `file` is its name in an error.
     pub fn parse(file: &str, text: &str) -> Result<PageMap, Failure> {
         let mut entries: Vec<Entry> = Vec::new();
+        let (mut count, mut over) = (0, None);
         for (line, content) in (1..).zip(text.lines()) {
             let content = content.split('#').next().unwrap_or_default().trim();
             if content.is_empty() {
                 continue;
             }
             let place = format!("{file}:{line}");
-            let (page, leaf) = entry(content).map_err(|wrong| Failure::at(&place, wrong))?;
-            if let Some(first) = entries.iter().find(|entry| entry.page == page) {
-                let wrong = format!(
-                    "page {:#x} stands already in line {}; give each page once",
-                    first.address(),
-                    first.line
-                );
-                return Err(Failure::at(&place, wrong));
+            let pages = pages(content).map_err(|wrong| Failure::at(&place, wrong))?;
+            count += pages.count;
+            if count > MOST as u64 {
+                over = over.or(Some(line));
+                continue;
             }
-            if entries.len() == MOST {
-                let wrong = format!("this is page {}; a map has at most {MOST}", MOST + 1);
-                return Err(Failure::at(&place, wrong));
+            for entry in pages.entries(line) {
+                if let Some(first) = entries.iter().find(|one| one.page == entry.page) {
+                    let wrong = format!(
+                        "page {:#x} stands already in line {}; give each page once",
+                        first.address(),
+                        first.line
+                    );
+                    return Err(Failure::at(&place, wrong));
+                }
+                entries.push(entry);
             }
-            entries.push(Entry { page, leaf, line });
+        }
+        if let Some(line) = over {
+            let wrong = format!("the map has {count} pages, and the hart takes at most {MOST}; this line is the first over it");
+            return Err(Failure::at(&format!("{file}:{line}"), wrong));
         }
         entries.sort_by_key(|entry| entry.page);
         let words = entries
@@ -112,19 +121,76 @@ impl PageMap {
     }
 }
 
-/// The page number and the leaf of a line.
-fn entry(content: &str) -> Result<(u64, u64), String> {
-    let Some((page, target)) = content.split_once("->") else {
+/// The pages of a line: the number and the leaf of the first, and how many there are, each in the frame behind the one before.
+struct Pages {
+    page: u64,
+    leaf: u64,
+    count: u64,
+}
+
+impl Pages {
+    fn entries(&self, line: usize) -> impl Iterator<Item = Entry> + '_ {
+        (0..self.count).map(move |at| Entry {
+            page: self.page + at,
+            leaf: self.leaf + (at << 10),
+            line,
+        })
+    }
+}
+
+fn pages(content: &str) -> Result<Pages, String> {
+    let Some((virtuals, target)) = content.split_once("->") else {
         return Err(format!(
             "'{content}' has no '->'; write for instance 0x10000 -> 0x80001000 rw u"
         ));
     };
-    let page = page_number(page.trim())?;
+    let (page, count) = page_numbers(virtuals.trim())?;
     let mut words = target.split_whitespace();
-    match words.next() {
-        Some("leaf") => Ok((page, whole_leaf(words)?)),
-        Some(frame) => Ok((page, frame_number(frame)? << 10 | flags(words)?)),
-        None => Err("the frame is missing; write for instance 0x10000 -> 0x80001000 rw u".into()),
+    let leaf =
+        match words.next() {
+            Some("leaf") if count > 1 => return Err(
+                "'leaf' gives the word of one page; for a range give a physical address and flags"
+                    .into(),
+            ),
+            Some("leaf") => whole_leaf(words)?,
+            Some(frame) => {
+                let first = frame_number(frame)?;
+                frame_fits(first + (count - 1))?;
+                first << 10 | flags(words)?
+            }
+            None => {
+                return Err(
+                    "the frame is missing; write for instance 0x10000 -> 0x80001000 rw u".into(),
+                )
+            }
+        };
+    Ok(Pages { page, leaf, count })
+}
+
+/// The number of the first page, and how many there are.
+fn page_numbers(text: &str) -> Result<(u64, u64), String> {
+    let Some((first, end)) = text.split_once("..") else {
+        return Ok((page_number(text)?, 1));
+    };
+    let (first, end) = (first.trim(), end.trim());
+    let page = page_number(first)?;
+    let (start, behind) = (number(first)?, number(end)?);
+    aligned("virtual", behind)?;
+    if behind <= start {
+        let right = match start.checked_add(PAGE) {
+            Some(right) => {
+                format!("its end is the first address behind it, for instance {right:#x}")
+            }
+            None => "give the last page a line of its own".into(),
+        };
+        return Err(format!("the range {first}..{end} has no page; {right}"));
+    }
+    let last = page_number(&format!("{:#x}", behind - PAGE))?;
+    match last.checked_sub(page) {
+        Some(more) if start >> 38 == (behind - PAGE) >> 38 => Ok((page, more + 1)),
+        _ => Err(format!(
+            "the range {first}..{end} goes over addresses that are not of Sv39; give two ranges"
+        )),
     }
 }
 
@@ -142,12 +208,18 @@ fn page_number(text: &str) -> Result<u64, String> {
 fn frame_number(text: &str) -> Result<u64, String> {
     let address = number(text)?;
     aligned("physical", address)?;
-    if address >> 56 != 0 {
-        return Err(format!(
-            "physical address {address:#x} has more than 56 bits, the most that a leaf holds"
-        ));
-    }
+    frame_fits(address / PAGE)?;
     Ok(address / PAGE)
+}
+
+fn frame_fits(frame: u64) -> Result<(), String> {
+    match frame >> 44 {
+        0 => Ok(()),
+        _ => Err(format!(
+            "physical address {:#x} has more than 56 bits, the most that a leaf holds",
+            u128::from(frame) * u128::from(PAGE)
+        )),
+    }
 }
 
 fn aligned(kind: &str, address: u64) -> Result<(), String> {

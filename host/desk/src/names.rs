@@ -1,6 +1,5 @@
 //! Modes, registers and CSRs by the names that an engineer writes.
 
-use crate::options::nearest;
 use disasm::register;
 use sporhulma::{word, REST};
 
@@ -8,6 +7,9 @@ use sporhulma::{word, REST};
 pub const U: u64 = 0;
 pub const S: u64 = 1;
 pub const M: u64 = 3;
+
+/// The stack pointer's number.
+pub const SP: usize = 2;
 
 pub fn mode_name(mode: u64) -> &'static str {
     match mode {
@@ -42,5 +44,25 @@ pub fn csr_index(name: &str) -> Result<usize, String> {
             Some(near) => format!("'{name}' is no CSR of this hart; did you mean {near}?"),
             None => format!("'{name}' is no CSR of this hart; it has {}", csrs.join(" ")),
         }),
+    }
+}
+
+/// The name that is nearest to what was written, if one is near enough to be meant.
+pub fn nearest<'a>(written: &str, names: impl Iterator<Item = &'a str>) -> Option<&'a str> {
+    let likeness = |name: &str| strsim::jaro(written, name);
+    let near = names.max_by(|one, other| likeness(one).total_cmp(&likeness(other)))?;
+    (likeness(near) > 0.8).then_some(near)
+}
+
+#[cfg(test)]
+mod tests {
+    use super::*;
+
+    #[test]
+    fn only_near_names_are_suggested() {
+        let names = ["mtvec", "mepc", "medeleg"];
+        assert_eq!(nearest("mtvce", names.into_iter()), Some("mtvec"));
+        assert_eq!(nearest("cycle", names.into_iter()), None);
+        assert_eq!(nearest("", names.into_iter()), None);
     }
 }

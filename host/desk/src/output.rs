@@ -1,27 +1,26 @@
 //! Files that are written.
 
 use crate::failure::Failure;
-use crate::options::Given;
 use std::fs::{self, File, Metadata, OpenOptions};
 use std::io::{self, Write};
 use std::os::unix::fs::MetadataExt;
 
 /// The file that an option names, open for writing; it must be none of the others, which would be lost by that.
 pub fn asked(
-    given: &Given,
     option: &str,
+    path: Option<&str>,
     others: &[(&str, Option<&str>)],
 ) -> Result<Option<Output>, Failure> {
-    given.parsed(option, |path| {
-        let output = Output::open(path)?;
-        let lost = |other: &&(&str, Option<&str>)| other.1.is_some_and(|other| output.is(other));
-        match others.iter().find(lost) {
-            Some((what, _)) => Err(format!(
-                "'{path}' is {what}, which would be lost; give another file"
-            )),
-            None => Ok(output),
+    let Some(path) = path else { return Ok(None) };
+    let output = Output::open(path).map_err(|wrong| Failure::at(option, wrong))?;
+    let lost = |other: &&(&str, Option<&str>)| other.1.is_some_and(|other| output.is(other));
+    match others.iter().find(lost) {
+        Some((what, _)) => {
+            let wrong = format!("'{path}' is {what}, which would be lost; give another file");
+            Err(Failure::at(option, wrong))
         }
-    })
+        None => Ok(Some(output)),
+    }
 }
 
 /// A file that is open for writing, with its name for errors.

@@ -7,6 +7,7 @@
 use crate::bits::{MPRV, MXR, SSE, SUM};
 use crate::map::{Entry, PageMap};
 use crate::names::{M, S, U};
+use crate::symbols::Space;
 use sporhulma::{word, Hart, BASE};
 
 #[derive(Clone, Copy, Debug, PartialEq)]
@@ -169,6 +170,14 @@ fn masked(address: u64, bits: u32, sv39: bool) -> u64 {
 }
 
 impl Path {
+    /// Which addresses the access is made by.
+    pub fn space(&self) -> Space {
+        match self.sv39 {
+            true => Space::Virtual,
+            false => Space::Physical,
+        }
+    }
+
     /// Rules 3 to 9, in this order.
     fn judge(&self, hart: &Hart, length: u64) -> Result<u64, Refused> {
         self.aligned()?;

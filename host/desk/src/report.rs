@@ -1,61 +1,66 @@
 //! Where and why a run stopped: in words, and as a JSON object.
 
+use crate::bits::LPE;
 use crate::drive::{End, Stop};
 use crate::dump;
-use crate::explain::{cause_name, Rows, Trap};
+use crate::ends;
+use crate::explain::{cause_name, shadow_stack_on, Rows, Trap};
+use crate::facts::{hex, object, Facts};
 use crate::frames::{Scope, Table};
-use crate::json::Json;
-use crate::map::PageMap;
-use crate::names::mode_name;
+use crate::hints;
+use crate::names::{mode_name, SP};
+use crate::notes;
 use crate::setup::Job;
+use crate::state::State;
+use crate::symbols::Symbols;
 use crate::text;
 use disasm::register;
-use sporhulma::{word, Hart, BASE, REST};
+use serde_json::Value;
+use sporhulma::{word, BASE, REST};
 
 /// What is said at the end.
 pub struct Report {
     headline: String,
     rows: Rows,
     trap: Option<Trap>,
-    /// 0 if it ended as asked, 3 if not.
+    notes: Vec<String>,
+    /// 0 if it ended as asked, 3 if not; or the program's own, where that is asked for.
     pub status: u8,
 }
 
 impl Report {
     pub fn new(end: &End, job: &Job) -> Report {
-        let (map, expect) = (&job.map, job.expect.as_ref());
         let trap = match (end.stop, &end.before, end.cause) {
             (Stop::Trap | Stop::Stuck, Some(before), Some(cause)) => {
-                Some(Trap::explain(before, map, &end.after.hart, cause))
+                let hart = &end.after.hart;
+                Some(Trap::explain(before, &job.map, &job.symbols, hart, cause))
             }
             _ => None,
         };
-        let mut rows = trap
-            .as_ref()
-            .map_or_else(Vec::new, |trap| trap.rows.clone());
-        let next = if trap.is_some() { "handler" } else { "next" };
-        rows.push((next, end.after.next_text(map)));
-        rows.extend(start(job).map(|start| ("start", start)));
-        let translated = job.state.hart.rest[word::SATP] != 0;
-        rows.extend(notes(end, map, translated).map(|note| ("note", note)));
-        let good = match (expect, &trap) {
-            (None, trap) => trap.is_none(),
-            (Some(expect), Some(trap)) => expect.causes.contains(&trap.cause),
-            (Some(_), None) => false,
+        // Where no step was made, nothing could have an effect.
+        let notes = match end.count {
+            0 => Vec::new(),
+            _ => notes::notes(&end.watch),
         };
-        if let Some(expect) = expect {
-            let verdict = if good {
-                "as --expect asks"
-            } else {
-                "not as --expect asks"
-            };
-            rows.push(("expect", format!("{verdict}: {}", expect.text)));
-        }
-        let status = if good { 0 } else { 3 };
+        let good = ends::as_asked(end, trap.as_ref(), job.expect.as_ref());
+        let mut rows = rows(end, job, trap.as_ref());
+        rows.extend(notes.iter().map(|note| ("note", note.clone())));
+        rows.extend(job.expect.iter().map(|expect| {
+            let not = if good { "" } else { "not " };
+            ("expect", format!("{not}as --expect asks: {}", expect.text))
+        }));
+        let status = match end.stop {
+            _ if job.strict && !notes.is_empty() => 3,
+            // As a system hands it on: the low eight bits.
+            Stop::Exit(value) if job.exit_status => value as u8,
+            _ if good => 0,
+            _ => 3,
+        };
         Report {
-            headline: headline(end, trap.as_ref()),
+            headline: ends::headline(end, trap.as_ref()),
             rows,
             trap,
+            notes,
             status,
         }
     }
@@ -65,82 +70,85 @@ impl Report {
     }
 
     /// The object that docs/DESK.md describes.
-    pub fn json(&self, end: &End, job: &Job) -> Json {
-        let stopped = match end.stop {
-            Stop::Steps => "steps",
-            Stop::Trap => "trap",
-            Stop::Stuck => "stuck",
-        };
-        let headline = Json::text(self.headline.as_str());
-        let rows = self
-            .rows
-            .iter()
-            .map(|(label, text)| Json::text(format!("{label}: {text}")));
+    pub fn json(&self, end: &End, job: &Job) -> Value {
         let dumps = job
             .dumps
             .iter()
             .map(|&(address, length)| dumped(end, address, length));
-        let mut members = vec![
-            ("status", Json::Number(self.status.into())),
-            ("stopped", Json::text(stopped)),
-            ("count", Json::Number(end.count)),
-            ("followed", Json::Number(end.followed)),
-            ("trap", self.trap.as_ref().map_or(Json::Null, trap_json)),
-            (
-                "words",
-                Json::List([headline].into_iter().chain(rows).collect()),
-            ),
-        ];
-        let start = job.image.start.map_or(Json::Null, Json::hex);
+        let mut members = self.ended(end);
+        let start = job.image.start.map_or(Value::Null, hex);
         let image = [
-            ("format", Json::text(job.image.format_name())),
+            ("format", Value::from(job.image.format_name())),
             ("start", start),
         ];
-        members.push(("image", Json::object(image)));
-        members.extend(hart_json(&end.after.hart));
-        members.push(("dump", Json::List(dumps.collect())));
+        members.push(("image", object(image)));
+        members.extend(hart_json(end, &job.symbols));
+        members.push(("dump", Value::Array(dumps.collect())));
+        if let Some(layout) = &job.layout {
+            let lines = layout.text.lines().map(Value::from);
+            members.push(("map", lines.collect()));
+        }
         if job.frames {
             let scope = Scope::of(&job.state.hart, end.followed);
             members.push(("frames", frames(job).json_in_run(&scope)));
         }
-        Json::object(members)
+        object(members)
+    }
+
+    /// How it ended, and what is said about it.
+    fn ended(&self, end: &End) -> Facts {
+        let rows = self.rows.iter();
+        let rows = rows.map(|(label, text)| format!("{label}: {text}"));
+        let words: Vec<String> = [self.headline.clone()].into_iter().chain(rows).collect();
+        let exit = match end.stop {
+            Stop::Exit(value) => Value::from(value),
+            _ => Value::Null,
+        };
+        vec![
+            ("status", Value::from(self.status)),
+            ("stopped", Value::from(ends::name(end.stop))),
+            ("count", Value::from(end.count)),
+            ("followed", Value::from(end.followed)),
+            ("exit", exit),
+            ("trap", self.trap.as_ref().map_or(Value::Null, trap_json)),
+            ("words", Value::from(words)),
+            ("notes", Value::from(self.notes.clone())),
+            ("calls", end.environment.json()),
+        ]
     }
 }
 
-fn hart_json(hart: &Hart) -> Vec<(&'static str, Json)> {
+/// What explains the end, where the run began, and what served it.
+fn rows(end: &End, job: &Job, trap: Option<&Trap>) -> Rows {
+    let next = |state: &State| state.next_text(&job.map, &job.symbols);
+    let mut rows = trap.map_or_else(Vec::new, |trap| trap.rows.clone());
+    rows.push(match (end.stop, &end.before) {
+        (Stop::Exit(_), Some(before)) => ("at", next(before)),
+        (Stop::Trap | Stop::Stuck, _) => ("handler", next(&end.after)),
+        _ => ("next", next(&end.after)),
+    });
+    rows.extend(start(job).map(|start| ("start", start)));
+    rows.extend(user(job));
+    let hints = hints::hints(end, trap, job);
+    rows.extend(hints.into_iter().map(|hint| ("hint", hint)));
+    rows.extend(end.environment.row().map(|calls| ("calls", calls)));
+    rows
+}
+
+fn hart_json(end: &End, symbols: &Symbols) -> Facts {
+    let hart = &end.after.hart;
     let rest = &hart.rest;
-    let registers = (0..32).map(|n| (register(n), Json::hex(hart.x[n])));
-    let csrs = (word::SSP..REST.len()).map(|index| (REST[index], Json::hex(rest[index])));
-    vec![
-        ("pc", Json::hex(rest[word::PC])),
-        ("mode", Json::text(mode_name(rest[word::MODE]))),
-        ("elp", Json::Number(rest[word::ELP])),
-        ("registers", Json::object(registers)),
-        ("csrs", Json::object(csrs)),
-    ]
-}
-
-fn headline(end: &End, trap: Option<&Trap>) -> String {
-    let followed = match end.followed {
-        0 => String::new(),
-        1 => ", 1 trap before it followed".into(),
-        more => format!(", {more} traps before it followed"),
-    };
-    let step = end.count;
-    match (end.stop, trap) {
-        (Stop::Trap, Some(trap)) => {
-            format!("Stopped by a trap in step {step}{followed}: {}.", trap.headline())
-        }
-        (Stop::Stuck, Some(trap)) => format!(
-            "Stuck in step {step}{followed}: this trap leaves the hart exactly as it was, for ever: {}.",
-            trap.headline()
-        ),
-        _ => {
-            let followed = followed.replace(" before it", "");
-            let steps = if step == 1 { "step" } else { "steps" };
-            format!("Stopped after {step} {steps}, all that --steps allows{followed}.")
-        }
-    }
+    let registers = (0..32).map(|n| (register(n), hex(hart.x[n])));
+    let csrs = (word::SSP..REST.len()).map(|index| (REST[index], hex(rest[index])));
+    let mut members = vec![("pc", hex(rest[word::PC]))];
+    members.extend(symbols.facts(rest[word::PC], end.after.space()));
+    members.extend([
+        ("mode", Value::from(mode_name(rest[word::MODE]))),
+        ("elp", Value::from(rest[word::ELP])),
+        ("registers", object(registers)),
+        ("csrs", object(csrs)),
+    ]);
+    members
 }
 
 /// The start address that the image gives, and whether the hart began there.
@@ -156,41 +164,59 @@ fn start(job: &Job) -> Option<String> {
     ))
 }
 
-/// Hints about slips that are easily made.
-fn notes(end: &End, map: &PageMap, translated: bool) -> impl Iterator<Item = String> {
-    let bare = end.after.hart.rest[word::SATP] == 0 && !translated;
-    let unused = (bare && !map.entries.is_empty()).then(|| {
-        "the map was not in use: satp is Bare at the start and at the end (--sv39 turns it on)"
-            .into()
-    });
-    let still = end.stop == Stop::Steps
-        && end
-            .before
-            .as_ref()
-            .is_some_and(|b| b.hart == end.after.hart && b.mem == end.after.mem);
-    let still =
-        still.then(|| "the last step changed nothing: the program waits here for ever".into());
-    unused.into_iter().chain(still)
+/// What `--user` set, as the hart had it at the start.
+fn user(job: &Job) -> Rows {
+    let (Some(layout), true) = (&job.layout, job.user) else {
+        return Vec::new();
+    };
+    let hart = &job.state.hart;
+    let pads = match (hart.rest[word::SENVCFG] & LPE != 0, layout.pads) {
+        (true, pads) => format!("landing pads on ({pads} in the program)"),
+        (false, 0) => "landing pads off, since the program has none".into(),
+        (false, pads) => format!("landing pads off ({pads} in the program)"),
+    };
+    let shadow = match shadow_stack_on(hart) {
+        true => "shadow stack on",
+        false => "shadow stack off",
+    };
+    let pc = job.symbols.told(job.state.pc(), job.state.space());
+    let mode = mode_name(job.state.mode());
+    let satp = match hart.rest[word::SATP] >> 60 {
+        8 => "under Sv39 by the map below",
+        _ => "with satp Bare",
+    };
+    let (sp, ssp) = (hart.x[SP], hart.rest[word::SSP]);
+    vec![
+        ("user", format!("{mode} {satp}, {shadow}, {pads}")),
+        (
+            "began",
+            format!("at pc {pc} with sp {sp:#x} and ssp {ssp:#x}"),
+        ),
+    ]
 }
 
-fn trap_json(trap: &Trap) -> Json {
+fn trap_json(trap: &Trap) -> Value {
     let facts = trap.facts.iter().map(|(key, value)| (*key, value.clone()));
-    Json::object([
-        ("cause", Json::Number(trap.cause)),
-        ("name", Json::text(cause_name(trap.cause))),
-        ("tval", Json::hex(trap.tval)),
-        ("pc", Json::hex(trap.pc)),
-        ("from", Json::text(mode_name(trap.from))),
-        ("to", Json::text(mode_name(trap.to))),
-        ("facts", Json::object(facts)),
-    ])
+    let mut members = vec![
+        ("cause", Value::from(trap.cause)),
+        ("name", Value::from(cause_name(trap.cause))),
+        ("tval", hex(trap.tval)),
+        ("pc", hex(trap.pc)),
+    ];
+    members.extend(trap.place.iter().cloned());
+    members.extend([
+        ("from", Value::from(mode_name(trap.from))),
+        ("to", Value::from(mode_name(trap.to))),
+        ("facts", object(facts)),
+    ]);
+    object(members)
 }
 
-fn dumped(end: &End, address: u64, length: u64) -> Json {
+fn dumped(end: &End, address: u64, length: u64) -> Value {
     let start = (address - BASE) as usize;
     let bytes = &end.after.mem[start..start + length as usize];
-    let hex: String = bytes.iter().map(|byte| format!("{byte:02x}")).collect();
-    Json::object([("address", Json::hex(address)), ("bytes", Json::text(hex))])
+    let bytes: String = bytes.iter().map(|byte| format!("{byte:02x}")).collect();
+    object([("address", hex(address)), ("bytes", Value::from(bytes))])
 }
 
 /// What the map names, by the hart at the start of the run.
@@ -201,6 +227,11 @@ fn frames(job: &Job) -> Table {
 /// The tables that were asked for.
 pub fn tables(end: &End, job: &Job) -> String {
     let mut text = String::new();
+    if let Some(layout) = &job.layout {
+        let lines = layout.text.lines().map(|line| format!("  {line}\n"));
+        text += "\nThe map that was laid out, as --map FILE takes it:\n";
+        text += &lines.collect::<String>();
+    }
     if job.frames {
         let scope = Scope::of(&job.state.hart, end.followed);
         text += &format!("\n{}", frames(job).text(&scope));

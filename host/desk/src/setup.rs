@@ -1,31 +1,37 @@
 //! From the options of `desk run` to what is run: the state at the start, the map, the limits, the outputs.
 
 use crate::drive::Limits;
+use crate::environment::Services;
 use crate::failure::Failure;
 use crate::image;
-use crate::load::{load, Image};
+use crate::layout::Layout;
+use crate::load::{self, load, Image, Loaded};
 use crate::map::PageMap;
 use crate::number::{number, size};
-use crate::options::Given;
 use crate::output::{self, Output};
-use crate::refusal::{self, MEMORY};
-use crate::start::{hart, pc};
+use crate::run_options::{Expect, RunOptions, Wanted};
+use crate::start::{self, hart, pc};
 use crate::state::State;
-use sporhulma::{word, BASE};
-
-/// A trap that the user waits for.
-pub struct Expect {
-    pub text: String,
-    pub causes: Vec<u64>,
-}
+use crate::symbols::Symbols;
+use sporhulma::{word, Hart, BASE};
 
 /// All that `desk run` was asked to do.
 pub struct Job {
     pub image: Image,
     pub state: State,
     pub map: PageMap,
+    /// How the map was laid out, if no file gave it.
+    pub layout: Option<Layout>,
+    /// Whether the start is that of a user program by `--user`.
+    pub user: bool,
+    pub symbols: Symbols,
     pub limits: Limits,
     pub expect: Option<Expect>,
+    pub services: Services,
+    /// Whether the program's exit value is the status.
+    pub exit_status: bool,
+    /// Whether a note is an end that was not asked for.
+    pub strict: bool,
     pub trace: bool,
     pub trace_to: Option<Output>,
     pub registers: bool,
@@ -37,100 +43,100 @@ pub struct Job {
 }
 
 impl Job {
-    pub fn new(given: &Given) -> Result<Job, Failure> {
-        let (image, mem) = load(given, length(given)?)?;
-        let mut hart = hart(given)?;
-        hart.rest[word::PC] = pc(given, &image)?.unwrap_or(hart.rest[word::PC]);
+    pub fn new(options: &RunOptions) -> Result<Job, Failure> {
+        options.agree()?;
+        let Loaded {
+            image,
+            mem,
+            map,
+            layout,
+            symbols,
+        } = load(options)?;
+        let user = layout.as_ref().filter(|_| options.user);
+        let mut hart = hart(user.map_or_else(Hart::fresh, start::user), &options.start)?;
+        hart.rest[word::PC] = pc(&options.start, &image)?.unwrap_or(hart.rest[word::PC]);
         let state = State { hart, mem };
-        let frames = given.has("--frames");
-        if frames && !given.has("--map") {
-            let wrong = "it tells what the map's entries name, and no map is given; add --map FILE";
-            return Err(Failure::at("--frames", wrong));
-        }
-        let map = map(given)?;
         let limits = Limits {
-            steps: given.parsed("--steps", number)?.unwrap_or(1_000_000),
-            follow: follow(given)?,
+            steps: options.steps,
+            follow: options.follow,
         };
-        let dumps = given
-            .all("--dump")
-            .map(|value| dump(value, state.mem.len() as u64));
-        let dumps = dumps
-            .collect::<Result<_, _>>()
-            .map_err(|wrong| Failure::at("--dump", wrong))?;
-        let (trace, json) = (given.has("--trace"), given.has("--json"));
-        if trace && json && !given.has("--trace-to") {
-            let wrong = "with --json the trace needs a place of its own; add --trace-to FILE";
-            return Err(Failure::at("--trace", wrong));
-        }
+        let symbols = match &options.symbols {
+            Some(path) => load::symbols(path)?,
+            None => symbols,
+        };
         Ok(Job {
-            expect: given.parsed("--expect", expect)?,
-            trace: trace || given.has("--trace-to"),
-            trace_to: output(given, "--trace-to")?,
-            registers: given.has("--registers"),
-            save: output(given, "--save")?,
+            symbols,
+            user: options.user,
+            map,
+            layout,
+            dumps: dumps(options)?,
+            expect: options.expect.clone(),
+            services: services(options)?,
+            exit_status: options.exit_status,
+            strict: options.strict,
+            trace: options.trace || options.trace_to.is_some(),
+            trace_to: output(options, "--trace-to", &options.trace_to)?,
+            registers: options.registers,
+            save: output(options, "--save", &options.save)?,
+            frames: options.frames,
+            json: options.json,
             image,
             state,
-            map,
             limits,
-            dumps,
-            frames,
-            json,
         })
     }
 }
 
-/// The page map, which may be left out.
-pub fn map(given: &Given) -> Result<PageMap, Failure> {
-    match given.one("--map") {
-        Some(path) => PageMap::parse(path, &image::text(path)?),
-        None => Ok(PageMap::default()),
+/// What serves the program's calls: something must, where its exit is waited for.
+fn services(options: &RunOptions) -> Result<Services, Failure> {
+    let services = Services {
+        semihosting: options.semihosting,
+        syscalls: options.syscalls,
+    };
+    let exit = |expect: &Expect| matches!(expect.wanted, Wanted::Exit(_));
+    let waits = match (
+        options.exit_status,
+        options.expect.as_ref().is_some_and(exit),
+    ) {
+        (true, _) => "--exit-status",
+        (_, true) => "--expect",
+        _ => return Ok(services),
+    };
+    if !services.semihosting && !services.syscalls {
+        let wrong = "nothing serves an exit of the program; add --syscalls or --semihosting";
+        return Err(Failure::at(waits, wrong));
     }
+    Ok(services)
 }
 
-/// How many bytes memory has.
-pub fn length(given: &Given) -> Result<u64, Failure> {
-    let length = given.parsed("--memory", size)?.unwrap_or(MEMORY);
-    match refusal::memory(length) {
-        Some(wrong) => Err(Failure::at("--memory", wrong)),
-        None => Ok(length),
-    }
+/// The page map of a file.
+pub fn map(path: &str) -> Result<PageMap, Failure> {
+    PageMap::parse(path, &image::text(path)?)
 }
 
 /// The file that an option names, open for writing; it must be none that would be lost by that.
-fn output(given: &Given, option: &str) -> Result<Option<Output>, Failure> {
-    let trace = given.one("--trace-to").filter(|_| option != "--trace-to");
+fn output(
+    options: &RunOptions,
+    option: &str,
+    path: &Option<String>,
+) -> Result<Option<Output>, Failure> {
+    let trace = options.trace_to.as_deref();
     let others = [
-        ("the image", given.places.first().map(String::as_str)),
-        ("the page map", given.one("--map")),
-        ("the trace", trace),
+        ("the image", Some(options.image.as_str())),
+        ("the page map", options.map_file()),
+        ("the file of symbols", options.symbols.as_deref()),
+        ("the trace", trace.filter(|_| option != "--trace-to")),
     ];
-    output::asked(given, option, &others)
+    output::asked(option, path.as_deref(), &others)
 }
 
-fn follow(given: &Given) -> Result<u64, Failure> {
-    let read = |value: &str| match value {
-        "all" => Ok(u64::MAX),
-        _ => number(value).map_err(|_| format!("'{value}' is neither a number of traps nor 'all'")),
-    };
-    Ok(given.parsed("--follow", read)?.unwrap_or(0))
-}
-
-fn expect(text: &str) -> Result<Expect, String> {
-    let causes = match (text, number(text)) {
-        ("ecall", _) => vec![8, 9, 11],
-        ("ebreak", _) => vec![3],
-        (_, Ok(cause)) if cause < 64 => vec![cause],
-        _ => {
-            return Err(format!(
-                "'{text}' is no trap; write ecall, ebreak or a cause below 64"
-            ))
-        }
-    };
-    Ok(Expect {
-        text: text.into(),
-        causes,
-    })
+/// The stretches of memory that are shown at the end.
+fn dumps(options: &RunOptions) -> Result<Vec<(u64, u64)>, Failure> {
+    let wrong = |wrong: String| Failure::at("--dump", wrong);
+    let dumps = options.dump.iter();
+    dumps
+        .map(|value| dump(value, options.memory).map_err(wrong))
+        .collect()
 }
 
 /// A stretch of memory: ADDRESS:LENGTH, all of it in memory.

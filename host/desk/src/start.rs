@@ -2,31 +2,50 @@
 
 use crate::bits::{LPE, MLPE, PMM, SSE};
 use crate::failure::Failure;
-use crate::load::Image;
-use crate::names::{csr_index, register_number};
+use crate::layout::Layout;
+use crate::load::{Format, Image};
+use crate::names::{csr_index, register_number, SP, U};
 use crate::number::{number, register_value};
-use crate::options::{Choices, Given};
+use crate::run_options::{Pc, StartOptions};
 use sporhulma::{word, Hart, MSTATUS_CLEAR};
 
 /// Where the hart starts, if the options say it: at an address, or where the image says.
-pub fn pc(given: &Given, image: &Image) -> Result<Option<u64>, Failure> {
-    given.parsed("--pc", |value| match value {
-        "start" => image.start_address(),
-        _ => number(value),
-    })
+pub fn pc(options: &StartOptions, image: &Image) -> Result<Option<u64>, Failure> {
+    match options.pc {
+        None if image.format == Format::Elf => Ok(image.start),
+        None => Ok(None),
+        Some(Pc::At(address)) => Ok(Some(address)),
+        Some(Pc::Start) => {
+            let start = image.start_address();
+            start.map(Some).map_err(|wrong| Failure::at("--pc", wrong))
+        }
+    }
 }
 
-/// The hart at the start, but for `--pc`.
-pub fn hart(given: &Given) -> Result<Hart, Failure> {
+/// A hart as a user program with its shadow stack needs it, but for its pc: in U under Sv39, with its stack pointers. Pads are on where
+/// the program has any.
+pub fn user(layout: &Layout) -> Hart {
     let mut hart = Hart::fresh();
+    let pads = if layout.pads > 0 { LPE } else { 0 };
+    hart.rest[word::MODE] = U;
+    hart.rest[word::SATP] = 8 << 60;
+    hart.rest[word::MENVCFG] = SSE | pads;
+    hart.rest[word::SENVCFG] = SSE | pads;
+    hart.rest[word::SSP] = layout.ssp;
+    hart.x[SP] = layout.sp;
+    hart
+}
+
+/// What the options make of a hart, but for `--pc`.
+pub fn hart(mut hart: Hart, options: &StartOptions) -> Result<Hart, Failure> {
     let mut set = Vec::new();
-    for pair in given.all("--x") {
+    for pair in &options.x {
         let (name, value) = assignment("--x", pair, "a0=5")?;
         let n = register_number(name).map_err(|wrong| Failure::at("--x", wrong))?;
         hart.x[n] = once("--x", name, &mut set, n, register_value(value))?;
     }
     set.clear();
-    for pair in given.all("--csr") {
+    for pair in &options.csr {
         let (name, value) = assignment("--csr", pair, "mtvec=0x80000100")?;
         let index = csr_index(name).map_err(|wrong| Failure::at("--csr", wrong))?;
         hart.rest[index] = once("--csr", name, &mut set, index, number(value))?;
@@ -34,49 +53,44 @@ pub fn hart(given: &Given) -> Result<Hart, Failure> {
     if hart.rest[word::MSTATUS] >> 32 & 15 == 0 {
         hart.rest[word::MSTATUS] |= MSTATUS_CLEAR;
     }
-    if given.has("--ssp") && set.contains(&word::SSP) {
+    if options.ssp.is_some() && set.contains(&word::SSP) {
         return Err(Failure::at(
             "--ssp",
             "ssp is given twice, also by --csr ssp; give it once",
         ));
     }
-    if let Some(ssp) = given.parsed("--ssp", number)? {
-        hart.rest[word::SSP] = ssp;
+    let mode = options.mode.map(|mode| mode as u64);
+    for (value, index) in [
+        (options.ssp, word::SSP),
+        (mode, word::MODE),
+        (options.elp, word::ELP),
+    ] {
+        hart.rest[index] = value.unwrap_or(hart.rest[index]);
     }
-    let choices = [("--mode", word::MODE, MODES), ("--elp", word::ELP, ELPS)];
-    for (name, index, choices) in choices {
-        hart.rest[index] = given.chosen(name, choices)?.unwrap_or(hart.rest[index]);
-    }
-    switches(given, &mut hart)?;
+    switches(options, &mut hart);
     Ok(hart)
 }
 
-const MODES: Choices = &[("M", 3), ("S", 1), ("U", 0)];
-const ELPS: Choices = &[("0", 0), ("1", 1)];
-/// Masked bits, and the PMM that stands for them.
-const MASKS: Choices = &[("0", 0), ("7", 2), ("16", 3)];
-
 /// The bits that the convenient switches set, on top of what --csr gave.
-fn switches(given: &Given, hart: &mut Hart) -> Result<(), Failure> {
+fn switches(options: &StartOptions, hart: &mut Hart) {
     let (menvcfg, senvcfg, mseccfg) = (word::MENVCFG, word::SENVCFG, word::MSECCFG);
-    for (name, index, bits) in [
-        ("--sv39", word::SATP, 8 << 60),
-        ("--shadow-stack", menvcfg, SSE),
-        ("--shadow-stack", senvcfg, SSE),
-        ("--landing-pads", menvcfg, LPE),
-        ("--landing-pads", senvcfg, LPE),
-        ("--landing-pads", mseccfg, MLPE),
+    for (on, index, bits) in [
+        (options.sv39, word::SATP, 8 << 60),
+        (options.shadow_stack, menvcfg, SSE),
+        (options.shadow_stack, senvcfg, SSE),
+        (options.landing_pads, menvcfg, LPE),
+        (options.landing_pads, senvcfg, LPE),
+        (options.landing_pads, mseccfg, MLPE),
     ] {
-        if given.has(name) {
+        if on {
             hart.rest[index] |= bits;
         }
     }
-    if let Some(pmm) = given.chosen("--masking", MASKS)? {
+    if let Some(pmm) = options.masking {
         for index in [menvcfg, senvcfg, mseccfg] {
             hart.rest[index] = hart.rest[index] & !PMM | pmm << 32;
         }
     }
-    Ok(())
 }
 
 fn assignment<'a>(

@@ -1,8 +1,9 @@
 //! A hart with its memory and its map, and what stands at an address of it.
 
 use crate::map::PageMap;
-use crate::names::mode_name;
+use crate::names::{mode_name, M};
 use crate::place::{follow, Access, Kind, Path};
+use crate::symbols::{Space, Symbols};
 use sporhulma::{word, Hart, BASE};
 
 /// A hart and its memory at one moment.
@@ -21,19 +22,32 @@ impl State {
         self.hart.rest[word::MODE]
     }
 
+    /// Which addresses the hart fetches from, and so calls and returns to.
+    pub fn space(&self) -> Space {
+        match self.mode() != M && self.hart.rest[word::SATP] >> 60 == 8 {
+            true => Space::Virtual,
+            false => Space::Physical,
+        }
+    }
+
     /// How an access would go.
     pub fn path(&self, map: &PageMap, access: Access) -> Path {
         follow(&self.hart, self.mem.len() as u64, map, access)
     }
 
-    /// The word that the next step fetches, or the path of the fetch that is refused.
-    pub fn next_word(&self, map: &PageMap) -> Result<u32, Box<Path>> {
+    /// How the next step's fetch goes.
+    pub fn fetch(&self, map: &PageMap) -> Path {
         let fetch = Access {
             kind: Kind::Fetch,
             width: 4,
             address: self.pc(),
         };
-        let path = self.path(map, fetch);
+        self.path(map, fetch)
+    }
+
+    /// The word that the next step fetches, or the path of the fetch that is refused.
+    pub fn next_word(&self, map: &PageMap) -> Result<u32, Box<Path>> {
+        let path = self.fetch(map);
         match path.end {
             Ok(physical) => Ok(self.bytes(physical, 4) as u32),
             Err(_) => Err(Box::new(path)),
@@ -47,9 +61,10 @@ impl State {
         self.mem[at..at + width].iter().rev().fold(0, number)
     }
 
-    /// The next instruction as address, mode, word and text.
-    pub fn next_text(&self, map: &PageMap) -> String {
-        let at = format!("{:#x} in {}", self.pc(), mode_name(self.mode()));
+    /// The next instruction as address with its name, mode, word and text.
+    pub fn next_text(&self, map: &PageMap, symbols: &Symbols) -> String {
+        let place = symbols.told(self.pc(), self.space());
+        let at = format!("{place} in {}", mode_name(self.mode()));
         match self.next_word(map) {
             Ok(word) => format!("{at}: {word:08x}  {}", disasm::text(word, self.pc())),
             Err(_) => format!("{at}: no word can be fetched there"),

@@ -3,31 +3,40 @@
 use crate::failure::Failure;
 use crate::image::image;
 use crate::number::number;
-use crate::options::{Given, Spec};
+use crate::run_options::some_text;
+use clap::Args;
 use sporhulma::BASE;
 use std::io::Write;
 
 /// The options of `desk disasm`.
+#[derive(Args)]
 #[rustfmt::skip]
-pub const OPTIONS: &[Spec] = &[
-    Spec { name: "--image", value: "FILE", example: "program.bin", many: false, about: "a raw image instead of words" },
-    Spec { name: "--at", value: "ADDRESS", example: "0x80000000", many: false, about: "the address of the first word, a multiple of 4 (default 0x80000000)" },
-    Spec { name: "--words", value: "N", example: "16", many: false, about: "at most so many words of the image (default all)" },
-];
+pub struct DisasmOptions {
+    #[arg(value_name = "WORD", hide = true, value_parser = some_text())]
+    words: Vec<String>,
+    #[arg(long, value_name = "FILE", value_parser = some_text(), help = "a raw image instead of words")]
+    image: Option<String>,
+    #[arg(long, value_name = "ADDRESS", value_parser = address, help = "the address of the first word, a multiple of 4 (default 0x80000000)")]
+    at: Option<u64>,
+    #[arg(long = "words", id = "most", value_name = "N", value_parser = number, help = "at most so many words of the image (default all)")]
+    most: Option<u64>,
+}
+
+fn address(text: &str) -> Result<u64, String> {
+    match number(text)? {
+        at if at % 4 != 0 => Err(format!(
+            "{at:#x} is not a multiple of 4; try {:#x}",
+            at - at % 4
+        )),
+        at => Ok(at),
+    }
+}
 
 /// Prints a line a word: address, word, text.
-pub fn run(given: &Given, out: &mut dyn Write) -> Result<u8, Failure> {
-    let at = given.parsed("--at", number)?.unwrap_or(BASE);
-    if at % 4 != 0 {
-        let wrong = format!("{at:#x} is not a multiple of 4; try {:#x}", at - at % 4);
-        return Err(Failure::at("--at", wrong));
-    }
-    let bytes = bytes(given)?;
-    let most = given
-        .parsed("--words", number)?
-        .unwrap_or(u64::MAX)
-        .min(bytes.len() as u64) as usize;
-    let mut pc = at;
+pub fn run(options: &DisasmOptions, out: &mut dyn Write) -> Result<u8, Failure> {
+    let bytes = bytes(options)?;
+    let most = options.most.unwrap_or(u64::MAX).min(bytes.len() as u64) as usize;
+    let mut pc = options.at.unwrap_or(BASE);
     for chunk in bytes.chunks(4).take(most) {
         match <[u8; 4]>::try_from(chunk) {
             Ok(bytes) => {
@@ -46,8 +55,8 @@ pub fn run(given: &Given, out: &mut dyn Write) -> Result<u8, Failure> {
 }
 
 /// The words as they lie in memory.
-fn bytes(given: &Given) -> Result<Vec<u8>, Failure> {
-    match (given.one("--image"), given.places.as_slice()) {
+fn bytes(options: &DisasmOptions) -> Result<Vec<u8>, Failure> {
+    match (&options.image, options.words.as_slice()) {
         (Some(path), []) => image(path),
         (Some(_), [word, ..]) => Err(Failure::at(
             "--image",
@@ -57,7 +66,7 @@ fn bytes(given: &Given) -> Result<Vec<u8>, Failure> {
             "disasm",
             "nothing is given; write desk disasm 0x00a00513 or --image FILE",
         )),
-        (None, _) if given.has("--words") => {
+        (None, _) if options.most.is_some() => {
             Err(Failure::at("--words", "it goes with --image; leave it out"))
         }
         (None, words) => {

@@ -2,20 +2,7 @@
 
 mod common;
 
-use common::{Desk, ECALL};
-
-/// Runs each command line, and holds its whole output against the line that must be on stderr.
-fn refused(test: &str, prepare: impl Fn(&Desk), cases: &[(&str, &str)]) {
-    let desk = Desk::new(test);
-    desk.image("ok.bin", &[ECALL]);
-    prepare(&desk);
-    for (arguments, line) in cases {
-        let outcome = desk.run(arguments);
-        assert_eq!(outcome.err, format!("desk: {line}\n"), "desk {arguments}");
-        assert_eq!(outcome.out, "", "desk {arguments}");
-        assert_eq!(outcome.status, 2, "desk {arguments}");
-    }
-}
+use common::{refused, Desk, ECALL};
 
 #[test]
 #[rustfmt::skip]
@@ -27,9 +14,12 @@ fn commands() {
         ("help rnu", "rnu: the desk has no such command; the commands are run, frames, demo, disasm, hex and help"),
         ("help run demo", "help: 'demo' is not needed; name one command"),
         ("demo now", "demo: 'now' is not needed; write desk demo [--svg FILE]"),
-        ("demo --svg", "--svg: its FILE is missing; write for instance --svg torque.svg"),
+        ("demo --svg", "--svg: its FILE is missing; write --svg FILE"),
+        ("--version", "--version: the desk has no such option; 'desk help' lists its commands"),
+        ("-v run ok.bin", "-v: the desk has no such option; 'desk help' lists its commands"),
+        ("help --all", "--all: the desk has no such command; the commands are run, frames, demo, disasm, hex and help"),
         ("run", "run: the image is missing; write desk run IMAGE [options]"),
-        ("run ok.bin user.map", "run: two images, ok.bin and user.map; give one"),
+        ("run ok.bin user.map", "run: 'user.map' is not needed; write desk run IMAGE [options]"),
     ]);
 }
 
@@ -40,9 +30,9 @@ fn options() {
         ("run ok.bin --memroy 64K", "--memroy: 'desk run' has no such option; did you mean --memory?"),
         ("run ok.bin --banana", "--banana: 'desk run' has no such option; 'desk help run' lists them"),
         ("run ok.bin -m", "-m: 'desk run' has no such option; 'desk help run' lists them"),
-        ("run ok.bin --memory", "--memory: its SIZE is missing; write for instance --memory 64K"),
-        ("run ok.bin --memory --trace", "--memory: its SIZE is missing; write for instance --memory 64K"),
-        ("run ok.bin --memory=", "--memory: its SIZE is missing; write for instance --memory 64K"),
+        ("run ok.bin --memory", "--memory: its SIZE is missing; write --memory SIZE"),
+        ("run ok.bin --memory --trace", "--memory: its SIZE is missing; write --memory SIZE"),
+        ("run ok.bin --memory=", "--memory: its SIZE is missing; write --memory SIZE"),
         ("run ok.bin --steps 1 --steps=2", "--steps: it is given twice; give it once"),
         ("run ok.bin --sv39 --sv39", "--sv39: it is given twice; give it once"),
         ("run ok.bin --sv39=1", "--sv39: it takes no value; write it alone"),
@@ -110,8 +100,16 @@ fn numbers() {
         ("run ok.bin --elp 2", "--elp: '2' is not one of 0, 1"),
         ("run ok.bin --masking 8", "--masking: '8' is not one of 0, 7, 16"),
         ("run ok.bin --follow some", "--follow: 'some' is neither a number of traps nor 'all'"),
-        ("run ok.bin --expect trap", "--expect: 'trap' is no trap; write ecall, ebreak or a cause below 64"),
-        ("run ok.bin --expect 64", "--expect: '64' is no trap; write ecall, ebreak or a cause below 64"),
+        ("run ok.bin --expect trap", "--expect: 'trap' is no end; write ecall, ebreak, a cause below 64, exit or exit=0"),
+        ("run ok.bin --expect exit=", "--expect: 'exit=' is no end; write ecall, ebreak, a cause below 64, exit or exit=0"),
+        ("run ok.bin --expect exit=ok", "--expect: 'exit=ok' is no end; write ecall, ebreak, a cause below 64, exit or exit=0"),
+        ("run ok.bin --expect exit=99999999999", "--expect: 'exit=99999999999' is no end; write ecall, ebreak, a cause below 64, exit or exit=0"),
+        ("run ok.bin --expect exit", "--expect: nothing serves an exit of the program; add --syscalls or --semihosting"),
+        ("run ok.bin --exit-status", "--exit-status: nothing serves an exit of the program; add --syscalls or --semihosting"),
+        ("run ok.bin --exit-status --expect ecall --syscalls", "--exit-status: it does not go with --expect; leave one out"),
+        ("run ok.bin --semihosting=on", "--semihosting: it takes no value; write it alone"),
+        ("run ok.bin --strict --strict", "--strict: it is given twice; give it once"),
+        ("run ok.bin --expect 64", "--expect: '64' is no end; write ecall, ebreak, a cause below 64, exit or exit=0"),
         ("run ok.bin --dump 0x80000000", "--dump: '0x80000000' has no ':'; write for instance 0x80001000:64"),
         ("run ok.bin --dump x:4", "--dump: 'x' is not a number; write it as 4096, 0x1000 or 0b1000"),
         ("run ok.bin --dump 0x80000000:0", "--dump: '0x80000000:0' has length 0; try 1 or more"),
@@ -200,7 +198,7 @@ fn maps() {
         ("run ok.bin --map none.map", "none.map: there is no such file; check the path"),
         ("run ok.bin --map binary.map", "binary.map: it is no text (not UTF-8); give a text file"),
         ("run ok.bin --map twice.map", "twice.map:3: page 0x2000 stands already in line 1; give each page once"),
-        ("run ok.bin --map many.map", "many.map:65: this is page 65; a map has at most 64"),
+        ("run ok.bin --map many.map", "many.map:65: the map has 65 pages, and the hart takes at most 64; this line is the first over it"),
     ]);
 }
 
@@ -212,11 +210,11 @@ fn frames() {
         desk.file("binary.map", [0xff, 0xfe]);
     };
     refused("frames", prepare, &[
-        ("frames", "frames: the map is missing; write desk frames --map FILE [options]"),
-        ("frames --memory 64K", "frames: the map is missing; write desk frames --map FILE [options]"),
-        ("frames user.map", "frames: 'user.map' is not needed; if it is the map, write desk frames --map user.map"),
+        ("frames", "frames: --map FILE is missing; write desk frames --map FILE [options]"),
+        ("frames --memory 64K", "frames: --map FILE is missing; write desk frames --map FILE [options]"),
+        ("frames user.map", "frames: 'user.map' is not needed; write desk frames --map FILE [options]"),
         ("frames ok.bin --map user.map", "frames: 'ok.bin' is not needed; write desk frames --map FILE [options]"),
-        ("frames --map", "--map: its FILE is missing; write for instance --map pages.map"),
+        ("frames --map", "--map: its FILE is missing; write --map FILE"),
         ("frames --map none.map", "none.map: there is no such file; check the path"),
         ("frames --map binary.map", "binary.map: it is no text (not UTF-8); give a text file"),
         ("frames --map wrong.map", "wrong.map:2: 'rwq' is no flag; use letters of v r w x u g a d, !v !a !d, or shadow"),
@@ -289,8 +287,8 @@ fn hex_files() {
         ("run guess.hex --format hex", "guess.hex:1: ' ' in column 4 is no hex digit: ':13 and so on' (the loader's refusal 6)"),
         ("run ok.bin --format hex", "ok.bin:1: it begins with 's' and not with a colon: 's\\x00\\x00\\x00' (the loader's refusal 6)"),
         ("run huge.hex", "huge.hex: the text has more than 67108864 bytes (64M); leave out what is stored twice"),
-        ("run ok.bin --format elf", "--format: 'elf' is not one of raw, hex"),
-        ("run ok.bin --pc start", "--pc: 'start' is the start address of an Intel HEX file, and ok.bin is a raw image; give an address"),
+        ("run ok.bin --format coff", "--format: 'coff' is not one of raw, hex, elf"),
+        ("run ok.bin --pc start", "--pc: 'start' is the start address of an Intel HEX or ELF file, and ok.bin is a raw image; give an address"),
         ("run good.hex --pc start", "--pc: 'start' is the file's start address, and good.hex gives none (no type 05 record); give an address"),
         ("run start.hex --pc start", "--pc: 0x80000002 is not a multiple of 4; try 0x80000000 or 0x80000004 (the hart's refusal 1)"),
         ("run good.hex --pc begin", "--pc: 'begin' is not a number; write it as 4096, 0x1000 or 0b1000"),
@@ -309,12 +307,12 @@ fn hex_written() {
     };
     refused("hex-written", prepare, &[
         ("hex", "hex: the image is missing; write desk hex IMAGE [options]"),
-        ("hex ok.bin user.map", "hex: two images, ok.bin and user.map; give one"),
+        ("hex ok.bin user.map", "hex: 'user.map' is not needed; write desk hex IMAGE [options]"),
         ("hex none.bin", "none.bin: there is no such file; check the path"),
         ("hex empty.bin", "empty.bin: the image is empty; give a file with at least one instruction"),
         ("hex huge.bin", "huge.bin: the image has more than 1048576 bytes (1M), the largest memory"),
-        ("hex good.hex", "good.hex: it is Intel HEX already; give a raw image"),
-        ("hex ok.bin -o", "-o: its FILE is missing; write for instance -o program.hex"),
+        ("hex good.hex", "good.hex: it is Intel HEX; give a raw image"),
+        ("hex ok.bin -o", "-o: its FILE is missing; write -o FILE"),
         ("hex ok.bin -o ok.bin", "-o: 'ok.bin' is the image, which would be lost; give another file"),
         ("hex ok.bin -o no/new.hex", "-o: 'no/new.hex' cannot be written (No such file or directory (os error 2)); give a file in a folder where you may write"),
         ("hex ok.bin -o new.hex --length 0", "--length: 0 is not a length of a line's data; try 1 to 255, for instance 32"),

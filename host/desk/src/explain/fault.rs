@@ -1,14 +1,16 @@
 //! An access that a rule of "From address to byte" refused.
 
 use super::{Rows, Verdict};
-use crate::json::Json;
+use crate::facts::hex;
 use crate::names::{mode_name, M};
 use crate::place::Path;
+use crate::symbols::Symbols;
+use serde_json::Value;
 
 /// The trap of a refused access; none if it was granted.
-pub fn verdict(path: &Path) -> Option<Verdict> {
+pub fn verdict(path: &Path, symbols: &Symbols) -> Option<Verdict> {
     let refused = path.end.as_ref().err()?;
-    let mut rows = rows(path);
+    let mut rows = rows(path, symbols);
     let why = format!(
         "by rule {} of \"From address to byte\": {}",
         refused.rule, refused.why
@@ -16,17 +18,18 @@ pub fn verdict(path: &Path) -> Option<Verdict> {
     rows.push(("refused", why));
     rows.extend(path.entry.map(|entry| entry.row()));
     let facts = vec![
-        ("rule", Json::Number(refused.rule.into())),
-        ("reason", Json::text(refused.why.as_str())),
-        ("access", Json::text(path.access.kind.name())),
-        ("width", Json::Number(path.access.width)),
-        ("address", Json::hex(path.access.address)),
-        ("transformed", Json::hex(path.transformed)),
-        ("effective_mode", Json::text(mode_name(path.mode))),
+        ("rule", Value::from(refused.rule)),
+        ("reason", Value::from(refused.why.as_str())),
+        ("access", Value::from(path.access.kind.name())),
+        ("width", Value::from(path.access.width)),
+        ("address", hex(path.access.address)),
+        ("transformed", hex(path.transformed)),
+        ("symbol", symbols.symbol(path.transformed, path.space())),
+        ("effective_mode", Value::from(mode_name(path.mode))),
         (
             "entry",
             path.entry
-                .map_or(Json::Null, |entry| Json::text(entry.text())),
+                .map_or(Value::Null, |entry| Value::from(entry.text())),
         ),
     ];
     Some(Verdict {
@@ -38,17 +41,15 @@ pub fn verdict(path: &Path) -> Option<Verdict> {
 }
 
 /// The access as computed, as whom, and that it was not masked where that made a difference.
-fn rows(path: &Path) -> Rows {
+fn rows(path: &Path, symbols: &Symbols) -> Rows {
     let access = &path.access;
-    let mut text = format!(
-        "{} of {} bytes at {:#x}",
-        access.kind.name(),
-        access.width,
-        access.address
-    );
-    if path.transformed != access.address {
-        text += &format!(", after masking {:#x}", path.transformed);
-    }
+    let name = access.kind.name();
+    let met = symbols.shown(path.transformed, path.space());
+    let at = match path.transformed == access.address {
+        true => met,
+        false => format!("{:#x}, after masking {met}", access.address),
+    };
+    let text = format!("{name} of {} bytes at {at}", access.width);
     let regime = match (path.sv39, path.mode) {
         (true, _) => "under Sv39",
         (false, M) => "where addresses are physical",

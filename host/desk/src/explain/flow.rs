@@ -1,12 +1,13 @@
-//! Traps of control flow: landing pads, the shadow stack's pop-check, jump targets, ECALL and EBREAK.
+//! Traps of control flow: landing pads, jump targets, ECALL and EBREAK.
 
 use super::{family, Verdict};
 use crate::bits::{LPE, MLPE, SSE};
-use crate::json::Json;
+use crate::facts::hex;
 use crate::names::{mode_name, M, S, U};
-use crate::place::Path;
 use crate::state::State;
-use disasm::{register, Word};
+use crate::symbols::Symbols;
+use disasm::Word;
+use serde_json::Value;
 use sporhulma::{word, Hart};
 
 /// The active shadow enable of the current mode.
@@ -19,7 +20,8 @@ pub fn shadow_stack_on(hart: &Hart) -> bool {
     }
 }
 
-fn pads_on(hart: &Hart) -> bool {
+/// Whether landing pads are on in the current mode.
+pub fn pads_on(hart: &Hart) -> bool {
     let enable = match hart.rest[word::MODE] {
         U => hart.rest[word::SENVCFG] & LPE,
         S => hart.rest[word::MENVCFG] & LPE,
@@ -54,8 +56,8 @@ pub fn landing_pad(before: &State, found: u32) -> Option<Verdict> {
         ),
     ];
     let facts = vec![
-        ("expected_label", Json::hex(label.into())),
-        ("found", Json::text(format!("{found:#010x}"))),
+        ("expected_label", hex(label.into())),
+        ("found", Value::from(format!("{found:#010x}"))),
     ];
     Some(Verdict {
         cause: 18,
@@ -65,45 +67,8 @@ pub fn landing_pad(before: &State, found: u32) -> Option<Verdict> {
     })
 }
 
-/// The trap of a pop-check whose register is not what was pushed.
-pub fn mismatch(before: &State, path: &Path, physical: u64, source: usize) -> Option<Verdict> {
-    let used = before.hart.x[source];
-    let pushed = before.bytes(physical, 8);
-    if used == pushed {
-        return None;
-    }
-    let (name, at) = (register(source), path.transformed);
-    let why = "shadow stack mismatch: the return address is not the one that was pushed";
-    let mut rows = vec![
-        ("why", why.into()),
-        (
-            "used",
-            format!("{used:#x} (in {name}: the return would go there)"),
-        ),
-        ("pushed", format!("{pushed:#x} (on the shadow stack)")),
-        (
-            "lies at",
-            format!("virtual {at:#x} (ssp), physical {physical:#x}"),
-        ),
-    ];
-    rows.extend(path.entry.map(|entry| entry.row()));
-    let facts = vec![
-        ("register", Json::text(name)),
-        ("used", Json::hex(used)),
-        ("pushed", Json::hex(pushed)),
-        ("virtual", Json::hex(at)),
-        ("physical", Json::hex(physical)),
-    ];
-    Some(Verdict {
-        cause: 18,
-        tval: 3,
-        rows,
-        facts,
-    })
-}
-
 /// The trap of a jump or a taken branch to an address that is no multiple of 4.
-pub fn target(before: &State, instruction: u32, family: u64) -> Option<Verdict> {
+pub fn target(before: &State, symbols: &Symbols, instruction: u32, family: u64) -> Option<Verdict> {
     let fields = Word(instruction);
     let pc = before.pc();
     let target = match family {
@@ -114,8 +79,9 @@ pub fn target(before: &State, instruction: u32, family: u64) -> Option<Verdict> 
         _ if taken(&before.hart, fields) => pc.wrapping_add(fields.imm_b() as u64),
         _ => return None,
     };
-    let why = format!("rule 3: the jump's target {target:#x} is not a multiple of 4");
-    let facts = vec![("rule", Json::Number(3)), ("target", Json::hex(target))];
+    let shown = symbols.shown(target, before.space());
+    let why = format!("rule 3: the jump's target {shown} is not a multiple of 4");
+    let facts = vec![("rule", Value::from(3)), ("target", hex(target))];
     let verdict = Verdict {
         cause: 0,
         tval: target,
@@ -152,7 +118,7 @@ pub fn ecall(before: &State) -> Verdict {
         "a7 = {:#x}, a0 = {:#x}, a1 = {:#x}, a2 = {:#x}",
         x[17], x[10], x[11], x[12]
     );
-    let facts = vec![("a7", Json::hex(x[17])), ("a0", Json::hex(x[10]))];
+    let facts = vec![("a7", hex(x[17])), ("a0", hex(x[10]))];
     Verdict {
         cause,
         tval: 0,

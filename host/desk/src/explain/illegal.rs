@@ -1,10 +1,11 @@
 //! Why an instruction is illegal.
 
-use super::{family, flow, Verdict};
-use crate::json::Json;
+use super::foreign::foreign;
+use super::{csrs, family, flow, Verdict};
 use crate::names::{mode_name, M, U};
 use disasm::Word;
 use formats::extensions::absent;
+use serde_json::Value;
 use sporhulma::{word, Hart};
 
 /// The address of the CSR ssp, which has a rule of its own.
@@ -12,8 +13,8 @@ const SSP: u16 = 0x011;
 
 pub fn verdict(word: u32, why: String) -> Verdict {
     let facts = vec![
-        ("word", Json::text(format!("{word:#010x}"))),
-        ("reason", Json::text(why.as_str())),
+        ("word", Value::from(format!("{word:#010x}"))),
+        ("reason", Value::from(why.as_str())),
     ];
     Verdict {
         cause: 2,
@@ -43,7 +44,8 @@ pub fn reason(hart: &Hart, instruction: u32, family: u64) -> Option<String> {
 fn csr(hart: &Hart, address: u16) -> Option<String> {
     let mode = hart.rest[word::MODE];
     let Some(name) = disasm::csr_name(address) else {
-        return Some(format!("the hart has no CSR {address:#05x}"));
+        let name = csrs::lacking(address).map_or_else(String::new, |name| format!(" ({name})"));
+        return Some(format!("the hart has no CSR {address:#05x}{name}"));
     };
     let least = u64::from(address >> 8 & 3);
     if mode < least {
@@ -68,6 +70,12 @@ fn unknown(word: u32) -> String {
     if let Some(absent) = absent(word) {
         let name = absent.name.to_uppercase();
         return format!("{UNKNOWN}; it looks like {name} ({})", absent.extension);
+    }
+    if let Some((name, extension)) = foreign(word) {
+        let name = name.to_uppercase();
+        return format!(
+            "{UNKNOWN}; it looks like {name} ({extension}, which the hart lacks: compile with -march=rv64im)"
+        );
     }
     let funct3 = word >> 12 & 7;
     let looks = match word & 0x7f {

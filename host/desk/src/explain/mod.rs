@@ -5,18 +5,22 @@
 //! the explanation says so and gives no reason.
 
 #[cfg(test)]
-mod agreement;
+pub mod agreement;
+mod csrs;
 mod fault;
 mod flow;
+mod foreign;
 mod illegal;
+mod shadow;
 
-pub use flow::shadow_stack_on;
+pub use flow::{pads_on, shadow_stack_on};
 
-use crate::json::Json;
+use crate::facts::Facts;
 use crate::map::PageMap;
 use crate::names::{mode_name, M};
 use crate::place::{Access, Kind};
 use crate::state::State;
+use crate::symbols::Symbols;
 use disasm::Word;
 use sporhulma::{word, Hart, BASE};
 use std::ops::Range;
@@ -25,7 +29,7 @@ use std::ops::Range;
 pub type Rows = Vec<(&'static str, String)>;
 
 /// The decoder's families that can trap, as `sporhulma::family` numbers them.
-mod family {
+pub mod family {
     pub const ILLEGAL: u64 = 0;
     pub const JAL: u64 = 3;
     pub const JALR: u64 = 4;
@@ -47,7 +51,7 @@ struct Verdict {
     cause: u64,
     tval: u64,
     rows: Rows,
-    facts: Vec<(&'static str, Json)>,
+    facts: Facts,
 }
 
 /// A trap as the hart gave it, explained.
@@ -56,25 +60,33 @@ pub struct Trap {
     pub tval: u64,
     /// Where and in which mode it happened.
     pub pc: u64,
+    /// What that is called, for programs.
+    pub place: Facts,
     pub from: u64,
     /// The mode that it was taken to.
     pub to: u64,
     pub rows: Rows,
-    pub facts: Vec<(&'static str, Json)>,
+    pub facts: Facts,
 }
 
 impl Trap {
     /// The trap of a step from `before` to `after`.
-    pub fn explain(before: &State, map: &PageMap, after: &Hart, cause: u64) -> Trap {
+    pub fn explain(
+        before: &State,
+        map: &PageMap,
+        symbols: &Symbols,
+        after: &Hart,
+        cause: u64,
+    ) -> Trap {
         let to = after.rest[word::MODE];
         let tval = after.rest[if to == M { word::MTVAL } else { word::STVAL }];
-        let (reason, facts) = match expected(before, map) {
+        let (reason, facts) = match expected(before, map, symbols) {
             Some(verdict) if (verdict.cause, verdict.tval) == (cause, tval) => {
                 (verdict.rows, verdict.facts)
             }
             other => (vec![("note", disagreement(other))], Vec::new()),
         };
-        let rows = [("at", before.next_text(map))]
+        let rows = [("at", before.next_text(map, symbols))]
             .into_iter()
             .chain(reason)
             .collect();
@@ -82,6 +94,7 @@ impl Trap {
             cause,
             tval,
             pc: before.pc(),
+            place: symbols.facts(before.pc(), before.space()),
             from: before.mode(),
             to,
             rows,
@@ -137,10 +150,10 @@ pub fn cause_name(cause: u64) -> &'static str {
 }
 
 /// The trap of the next step, if it traps.
-fn expected(before: &State, map: &PageMap) -> Option<Verdict> {
+fn expected(before: &State, map: &PageMap, symbols: &Symbols) -> Option<Verdict> {
     let word = match before.next_word(map) {
         Ok(word) => word,
-        Err(path) => return fault::verdict(&path),
+        Err(path) => return fault::verdict(&path, symbols),
     };
     if let Some(missing) = flow::landing_pad(before, word) {
         return Some(missing);
@@ -150,15 +163,15 @@ fn expected(before: &State, map: &PageMap) -> Option<Verdict> {
         return Some(illegal::verdict(word, why));
     }
     match family {
-        family::JAL | family::JALR | family::BRANCH => flow::target(before, word, family),
+        family::JAL | family::JALR | family::BRANCH => flow::target(before, symbols, word, family),
         family::ECALL => Some(flow::ecall(before)),
         family::EBREAK => Some(flow::ebreak(before)),
-        _ => access_trap(before, map, word),
+        _ => access_trap(before, map, symbols, word),
     }
 }
 
 /// The access that a memory instruction makes, if the word is one and makes one.
-fn access(before: &State, word: u32) -> Option<Access> {
+pub fn access(before: &State, word: u32) -> Option<Access> {
     let fields = Word(word);
     let hart = &before.hart;
     let ssp = hart.rest[word::SSP];
@@ -180,14 +193,19 @@ fn access(before: &State, word: u32) -> Option<Access> {
 }
 
 /// The trap of a memory instruction.
-fn access_trap(before: &State, map: &PageMap, word: u32) -> Option<Verdict> {
+fn access_trap(before: &State, map: &PageMap, symbols: &Symbols, word: u32) -> Option<Verdict> {
     let access = access(before, word)?;
     let path = before.path(map, access);
     match (access.kind, &path.end) {
         (Kind::Pop, Ok(physical)) => {
-            flow::mismatch(before, &path, *physical, Word(word).rs1() as usize)
+            let pop = shadow::Pop {
+                source: Word(word).rs1() as usize,
+                path: &path,
+                physical: *physical,
+            };
+            shadow::mismatch(before, map, symbols, pop)
         }
-        _ => fault::verdict(&path),
+        _ => fault::verdict(&path, symbols),
     }
 }
 

@@ -2,31 +2,30 @@
 
 use super::table::{Frame, Naming, Nothing};
 use super::{Scope, Table};
-use crate::json::Json;
+use crate::facts::{hex, object, Facts};
 use crate::map::{Entry, PAGE};
 use crate::place::Kind;
+use serde_json::Value;
 use sporhulma::BASE;
 use std::ops::Range;
 
-type Members = Vec<(&'static str, Json)>;
-
 impl Table {
-    pub fn json(&self) -> Json {
-        Json::object(self.members())
+    pub fn json(&self) -> Value {
+        object(self.members())
     }
 
     /// The same, and which conditions of the theorem a run does not meet.
-    pub fn json_in_run(&self, scope: &Scope) -> Json {
-        let unmet = list(&scope.unmet, |unmet| Json::text(unmet.as_str()));
-        Json::object(self.members().into_iter().chain([("unmet", unmet)]))
+    pub fn json_in_run(&self, scope: &Scope) -> Value {
+        let unmet = list(&scope.unmet, |unmet| Value::from(unmet.as_str()));
+        object(self.members().into_iter().chain([("unmet", unmet)]))
     }
 
-    fn members(&self) -> Members {
+    fn members(&self) -> Facts {
         let memory = range(&(BASE..BASE + self.length));
-        let settings = Json::object([
-            ("menvcfg_sse", Json::Number(self.sse())),
-            ("senvcfg_sse", Json::Number(self.shadow_stack())),
-            ("mstatus_mxr", Json::Number(self.mxr())),
+        let settings = object([
+            ("menvcfg_sse", Value::from(self.sse())),
+            ("senvcfg_sse", Value::from(self.shadow_stack())),
+            ("mstatus_mxr", Value::from(self.mxr())),
         ]);
         vec![
             ("memory", memory),
@@ -35,68 +34,71 @@ impl Table {
             ("unnamed", list(&self.unnamed, range)),
             (
                 "outside",
-                list(&self.outside, |outside| Json::object(entry(outside))),
+                list(&self.outside, |outside| object(entry(outside))),
             ),
             ("nothing", list(&self.nothing, nothing)),
         ]
     }
 }
 
-fn list<T>(items: &[T], item: impl Fn(&T) -> Json) -> Json {
-    Json::List(items.iter().map(item).collect())
+fn list<T>(items: &[T], item: impl Fn(&T) -> Value) -> Value {
+    Value::Array(items.iter().map(item).collect())
 }
 
-fn frame(frame: &Frame) -> Json {
-    Json::object([
-        ("frame", Json::hex(frame.address)),
+fn frame(frame: &Frame) -> Value {
+    object([
+        ("frame", hex(frame.address)),
         ("by", list(&frame.by, naming)),
     ])
 }
 
-fn range(range: &Range<u64>) -> Json {
+fn range(range: &Range<u64>) -> Value {
     let bytes = range.end - range.start;
-    Json::object([
-        ("first", Json::hex(range.start)),
-        ("last", Json::hex(range.end - 1)),
-        ("frames", Json::Number(bytes / PAGE)),
-        ("bytes", Json::Number(bytes)),
+    object([
+        ("first", hex(range.start)),
+        ("last", hex(range.end - 1)),
+        ("frames", Value::from(bytes / PAGE)),
+        ("bytes", Value::from(bytes)),
     ])
 }
 
-fn entry(entry: &Entry) -> Members {
+fn entry(entry: &Entry) -> Facts {
     vec![
-        ("entry", Json::text(entry.text())),
-        ("line", Json::Number(entry.line as u64)),
-        ("virtual", Json::hex(entry.address())),
-        ("frame", Json::hex(entry.frame())),
+        ("entry", Value::from(entry.text())),
+        ("line", Value::from(entry.line as u64)),
+        ("virtual", hex(entry.address())),
+        ("frame", hex(entry.frame())),
     ]
 }
 
-fn naming(naming: &Naming) -> Json {
-    let name = |kind: &Kind| Json::text(kind.name());
+fn naming(naming: &Naming) -> Value {
+    let name = |kind: &Kind| Value::from(kind.name());
     let unusable = |(kind, lacks): &(Kind, Vec<&'static str>)| {
-        Json::object([
+        object([
             ("access", name(kind)),
-            ("lacks", list(lacks, |lack| Json::text(*lack))),
+            ("lacks", list(lacks, |lack| Value::from(*lack))),
         ])
     };
     let own = [
         ("usable", list(&naming.usable, name)),
         ("not_usable", list(&naming.unusable, unusable)),
-        ("shadow_page", Json::Number(naming.shadow.into())),
+        ("shadow_page", Value::from(u64::from(naming.shadow))),
     ];
-    Json::object(entry(&naming.entry).into_iter().chain(own))
+    object(entry(&naming.entry).into_iter().chain(own))
 }
 
-fn nothing(nothing: &Nothing) -> Json {
+fn nothing(nothing: &Nothing) -> Value {
     let own = [
-        ("rule", Json::Number(nothing.refused.rule.into())),
-        ("reason", Json::text(nothing.refused.why.as_str())),
-        ("with_shadow_stack", Json::Number(nothing.with_sse.into())),
+        ("rule", Value::from(nothing.refused.rule)),
+        ("reason", Value::from(nothing.refused.why.as_str())),
+        (
+            "with_shadow_stack",
+            Value::from(u64::from(nothing.with_sse)),
+        ),
         (
             "named_by",
-            list(&nothing.named_by, |line| Json::Number(*line as u64)),
+            list(&nothing.named_by, |line| Value::from(*line as u64)),
         ),
     ];
-    Json::object(entry(&nothing.entry).into_iter().chain(own))
+    object(entry(&nothing.entry).into_iter().chain(own))
 }

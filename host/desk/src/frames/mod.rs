@@ -10,36 +10,38 @@ pub use scope::Scope;
 pub use table::Table;
 
 use crate::failure::Failure;
-use crate::options::{Given, Spec};
-use crate::run_options::{JSON, MAP, MEMORY, SHADOW_STACK};
-use crate::{setup, start};
+use crate::run_options::{memory, some_text, StartOptions, JSON, MAP, MEMORY, SHADOW_STACK};
+use crate::{facts, setup, start};
+use clap::Args;
+use sporhulma::Hart;
 use std::io::Write;
 
 /// The options of `desk frames`: those of `desk run` that decide what a map names.
-pub const OPTIONS: &[Spec] = &[MAP, MEMORY, SHADOW_STACK, JSON];
+#[derive(Args)]
+#[rustfmt::skip]
+pub struct FramesOptions {
+    #[arg(long, value_name = "FILE", value_parser = some_text(), help = MAP)]
+    map: String,
+    #[arg(long, value_name = "SIZE", default_value = "1M", hide_default_value = true, value_parser = memory, help = MEMORY)]
+    memory: u64,
+    #[arg(long, help = SHADOW_STACK)]
+    shadow_stack: bool,
+    #[arg(long, help = JSON)]
+    json: bool,
+}
 
 /// Prints the table of a map; there is no run, so what it tells is of a hart that is in U under Sv39.
-pub fn run(given: &Given, out: &mut dyn Write) -> Result<u8, Failure> {
-    if let Some(extra) = given.places.first() {
-        let right = match given.has("--map") {
-            true => "write desk frames --map FILE [options]".to_string(),
-            false => format!("if it is the map, write desk frames --map {extra}"),
-        };
-        let wrong = format!("'{extra}' is not needed; {right}");
-        return Err(Failure::at("frames", wrong));
-    }
-    if !given.has("--map") {
-        let wrong = "the map is missing; write desk frames --map FILE [options]";
-        return Err(Failure::at("frames", wrong));
-    }
-    let table = Table::new(
-        &start::hart(given)?,
-        setup::length(given)?,
-        &setup::map(given)?,
-    );
-    match given.has("--json") {
-        true => writeln!(out, "{}", table.json())?,
-        false => out.write_all(table.text(&Scope::default()).as_bytes())?,
-    }
+pub fn run(options: &FramesOptions, out: &mut dyn Write) -> Result<u8, Failure> {
+    let start = StartOptions {
+        shadow_stack: options.shadow_stack,
+        ..StartOptions::default()
+    };
+    let hart = start::hart(Hart::fresh(), &start)?;
+    let table = Table::new(&hart, options.memory, &setup::map(&options.map)?);
+    let said = match options.json {
+        true => facts::text(&table.json()),
+        false => table.text(&Scope::default()),
+    };
+    out.write_all(said.as_bytes())?;
     Ok(0)
 }

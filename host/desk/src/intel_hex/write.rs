@@ -1,40 +1,43 @@
 //! `desk hex`: writes a raw image as a text in Intel HEX.
 
-use super::told;
 use crate::failure::Failure;
 use crate::image;
 use crate::number::number;
-use crate::options::{Given, Spec};
 use crate::output;
+use crate::run_options::some_text;
+use clap::Args;
 use formats::hex::{text, MOST_DATA};
 use sporhulma::BASE;
 use std::io::Write;
 
 /// The options of `desk hex`.
+#[derive(Args)]
 #[rustfmt::skip]
-pub const OPTIONS: &[Spec] = &[
-    Spec { name: "-o", value: "FILE", example: "program.hex", many: false, about: "write the text there and not to the output" },
-    Spec { name: "--at", value: "ADDRESS", example: "0x80001000", many: false, about: "the address of the image's first byte, 32 bits (default 0x80000000, the start of memory)" },
-    Spec { name: "--length", value: "N", example: "32", many: false, about: "data bytes a line, 1 to 255 (default 16)" },
-    Spec { name: "--start", value: "ADDRESS", example: "0x80000000", many: false, about: "the start address that the text gives, 32 bits (default none)" },
-];
+pub struct HexOptions {
+    #[arg(value_name = "IMAGE", hide = true, value_parser = some_text())]
+    image: String,
+    #[arg(short, value_name = "FILE", value_parser = some_text(), help = "write the text there and not to the output")]
+    output: Option<String>,
+    #[arg(long, value_name = "ADDRESS", value_parser = address, help = "the address of the image's first byte, 32 bits (default 0x80000000, the start of memory)")]
+    at: Option<u32>,
+    #[arg(long, value_name = "N", value_parser = length, help = "data bytes a line, 1 to 255 (default 16)")]
+    length: Option<usize>,
+    #[arg(long, value_name = "ADDRESS", value_parser = address, help = "the start address that the text gives, 32 bits (default none)")]
+    start: Option<u32>,
+}
 
 const LENGTH: usize = 16;
 
 /// Prints or writes the text; nothing is written where something is wrong.
-pub fn run(given: &Given, out: &mut dyn Write) -> Result<u8, Failure> {
-    let path = given.image("hex", "desk hex IMAGE [options]")?;
-    let bytes = image::bytes(path)?;
-    if told(&bytes) {
-        let wrong = "it is Intel HEX already; give a raw image";
-        return Err(Failure::at(path, wrong));
-    }
-    let bytes = image::raw(path, bytes)?;
-    let at = given.parsed("--at", |value| at(value, bytes.len() as u64))?;
-    let length = given.parsed("--length", length)?.unwrap_or(LENGTH);
-    let start = given.parsed("--start", address)?;
-    let lines = text(&bytes, at.unwrap_or(BASE as u32), length, start);
-    match output::asked(given, "-o", &[("the image", Some(path))])? {
+pub fn run(options: &HexOptions, out: &mut dyn Write) -> Result<u8, Failure> {
+    let path = options.image.as_str();
+    let bytes = image::image(path)?;
+    let at = options.at.unwrap_or(BASE as u32);
+    fits(at, bytes.len() as u64).map_err(|wrong| Failure::at("--at", wrong))?;
+    let length = options.length.unwrap_or(LENGTH);
+    let lines = text(&bytes, at, length, options.start);
+    let image = ("the image", Some(path));
+    match output::asked("-o", options.output.as_deref(), &[image])? {
         Some(file) => file.replace(|file| Ok(file.write_all(lines.as_bytes())?))?,
         None => out.write_all(lines.as_bytes())?,
     }
@@ -47,15 +50,14 @@ fn address(value: &str) -> Result<u32, String> {
     u32::try_from(number(value)?).map_err(large)
 }
 
-/// An address from which on so many bytes have addresses of 32 bits.
-fn at(value: &str, length: u64) -> Result<u32, String> {
-    let address = address(value)?;
+/// Whether so many bytes from an address on have addresses of 32 bits.
+fn fits(address: u32, length: u64) -> Result<(), String> {
     let most = (1 << 32) - length;
     match u64::from(address) > most {
         true => Err(format!(
             "{length} bytes from {address:#x} on go past 0xffffffff, the last address of Intel HEX; try {most:#x} or less"
         )),
-        false => Ok(address),
+        false => Ok(()),
     }
 }
 
