@@ -1,9 +1,12 @@
-//! Running a hart over any number of steps: calls chained one after the other, traps followed or not, and the
-//! state before the last step kept, so that it can be explained.
+//! Running a hart over any number of steps: calls chained one after the other, traps served, followed or not, and the
+//! state before the last step found again, so that it can be explained.
 
+use crate::environment::{Environment, Served, Write};
 use crate::explain;
 use crate::failure::Failure;
 use crate::map::PageMap;
+use crate::notes::Watch;
+use crate::past::Past;
 use crate::progress::Progress;
 use crate::refusal;
 use crate::state::State;
@@ -13,7 +16,8 @@ use std::ops::Range;
 /// How far to go.
 #[derive(Clone, Copy)]
 pub struct Limits {
-    pub steps: u64,
+    /// None: up to the end of the program.
+    pub steps: Option<u64>,
     /// How many traps to go on after; `u64::MAX` for all.
     pub follow: u64,
 }
@@ -25,6 +29,12 @@ pub enum Stop {
     Trap,
     /// A trap that was followed left the hart exactly as it was: it would trap so for ever.
     Stuck,
+    /// A step without a trap left the hart exactly as it was: it would do so for ever.
+    Still,
+    /// The program asked its environment to end it, with this value.
+    Exit(i32),
+    /// The user ended it.
+    Interrupted,
 }
 
 /// Where a run ended.
@@ -37,6 +47,9 @@ pub struct End {
     /// The state before the last step; none if there was no step.
     pub before: Option<State>,
     pub after: State,
+    /// What was seen of the protections that are on.
+    pub watch: Watch,
+    pub environment: Environment,
 }
 
 /// One step of a trace.
@@ -49,6 +62,13 @@ pub struct Step<'a> {
     pub written: Range<usize>,
 }
 
+/// What a trace shows.
+pub enum Shown<'a> {
+    Step(Step<'a>),
+    /// A call was served, and the program goes on from here.
+    Served(&'a State),
+}
+
 /// A run on its way.
 pub struct Drive<'a> {
     state: State,
@@ -56,17 +76,34 @@ pub struct Drive<'a> {
     limits: Limits,
     count: u64,
     followed: u64,
+    watch: Watch,
+    environment: Environment,
+}
+
+/// What comes after a call.
+enum Next {
+    On,
+    /// The environment served a call and wrote this.
+    Served(Vec<Write>),
+    End(Stop),
 }
 
 impl<'a> Drive<'a> {
     /// Asks the hart whether it takes this state at all (a run of no steps), and begins.
-    pub fn start(state: State, map: &'a PageMap, limits: Limits) -> Result<Drive<'a>, Failure> {
+    pub fn start(
+        state: State,
+        map: &'a PageMap,
+        limits: Limits,
+        environment: Environment,
+    ) -> Result<Drive<'a>, Failure> {
         let mut drive = Drive {
+            watch: Watch::new(&state.hart, map),
             state,
             map,
             limits,
             count: 0,
             followed: 0,
+            environment,
         };
         drive.call(0)?;
         Ok(drive)
@@ -74,60 +111,89 @@ impl<'a> Drive<'a> {
 
     /// Runs to the end in as few calls as possible.
     pub fn run(mut self, progress: &Progress) -> Result<End, Failure> {
-        let mut kept = self.state.clone();
-        while self.count < self.limits.steps {
-            let left = self.limits.steps - self.count;
-            // The last step is a call of its own. Only a call that may be the last needs a copy of memory.
-            let budget = if left == 1 {
-                1
-            } else {
-                MOST_STEPS.min(left - 1)
-            };
-            if left == 1 || self.stops_at_trap() {
-                kept.hart = self.state.hart;
-                kept.mem.copy_from_slice(&self.state.mem);
-            }
+        let mut past = Past::new(&self.state);
+        let (mut told, mut long) = (0, false);
+        while self.left() > 0 {
+            past.renew(&self.state);
             let hart = self.state.hart;
-            let answer = self.call(budget)?;
-            if let Some(stop) = self.decide(&hart, answer) {
-                let before = match stop {
-                    Stop::Stuck => self.state.clone(),
-                    Stop::Steps | Stop::Trap => self.replay(kept, answer.count - 1)?,
-                };
-                return Ok(self.end(stop, Some(before), answer));
+            let ahead = self.watch.ahead(&self.state, self.map);
+            // Behind a long call a single step shows whether the hart still moves.
+            let most = if long { 1 } else { MOST_STEPS };
+            let most = ahead.as_ref().map_or(most, |ahead| ahead.steps);
+            let answer = self.call(most.min(self.left()))?;
+            long = answer.count == MOST_STEPS;
+            if let Some(ahead) = ahead {
+                self.watch.saw(&ahead, answer);
             }
-            progress.tick(self.count);
+            past.stepped(answer.count);
+            match self.next(&hart, answer)? {
+                Next::On => (),
+                Next::Served(writes) => past.served(&self.state.hart, writes),
+                Next::End(stop) => {
+                    let before = past.before_last(self.map)?;
+                    return Ok(self.end(stop, Some(before), answer));
+                }
+            }
+            if self.count - told >= TOLD {
+                told = self.count;
+                progress.tick(self.count, &self.state);
+                if progress.interrupted() {
+                    return Ok(self.end(Stop::Interrupted, None, NOTHING));
+                }
+            }
         }
         Ok(self.end(Stop::Steps, None, NOTHING))
     }
 
-    /// Runs to the end step by step and shows each to `watch`.
+    /// Runs to the end step by step and hands each to `show`.
     pub fn trace(
         mut self,
-        watch: &mut dyn FnMut(&Step) -> Result<(), Failure>,
+        progress: &Progress,
+        show: &mut dyn FnMut(Shown) -> Result<(), Failure>,
     ) -> Result<End, Failure> {
         let mut before = self.state.clone();
-        while self.count < self.limits.steps {
+        while self.left() > 0 {
             before.hart = self.state.hart;
+            let ahead = self.watch.ahead(&before, self.map);
             let answer = self.call(1)?;
+            if let Some(ahead) = ahead {
+                self.watch.saw(&ahead, answer);
+            }
             let written = explain::written(&before, self.map).filter(|_| !answer.trapped);
             let written = written.unwrap_or(0..0);
-            let number = self.count;
-            let after = &self.state;
-            watch(&Step {
+            let (number, after) = (self.count, &self.state);
+            show(Shown::Step(Step {
                 number,
                 before: &before,
                 after,
                 answer,
                 written: written.clone(),
-            })?;
-            if let Some(stop) = self.decide(&before.hart, answer) {
-                self.check_trace(&before, &written)?;
-                return Ok(self.end(stop, Some(before), answer));
+            }))?;
+            match self.next(&before.hart, answer)? {
+                Next::On => (),
+                Next::Served(writes) => {
+                    show(Shown::Served(&self.state))?;
+                    for (at, bytes) in writes {
+                        before.mem[at..at + bytes.len()].copy_from_slice(&bytes);
+                    }
+                }
+                Next::End(stop) => {
+                    self.check_trace(&before, &written)?;
+                    return Ok(self.end(stop, Some(before), answer));
+                }
             }
             before.mem[written.clone()].copy_from_slice(&self.state.mem[written]);
+            progress.tick(self.count, &self.state);
+            if progress.interrupted() {
+                return Ok(self.end(Stop::Interrupted, None, NOTHING));
+            }
         }
         Ok(self.end(Stop::Steps, None, NOTHING))
+    }
+
+    /// Steps that may still be made.
+    fn left(&self) -> u64 {
+        self.limits.steps.unwrap_or(u64::MAX) - self.count
     }
 
     fn stops_at_trap(&self) -> bool {
@@ -148,31 +214,28 @@ impl<'a> Drive<'a> {
         Ok(answer)
     }
 
-    /// Whether the call that began with `hart` was the last one, and why.
-    fn decide(&mut self, hart: &Hart, answer: Answer) -> Option<Stop> {
+    /// What comes after a call that began with `hart`.
+    fn next(&mut self, hart: &Hart, answer: Answer) -> Result<Next, Failure> {
+        // A step is a function of hart, memory and map, and neither a trap nor a step that leaves pc writes memory.
+        let same = answer.count == 1 && *hart == self.state.hart;
         if answer.trapped {
-            if self.stops_at_trap() {
-                return Some(Stop::Trap);
+            match self
+                .environment
+                .serve(&mut self.state, self.map, answer.cause)?
+            {
+                Served::Returned(writes) => return Ok(Next::Served(writes)),
+                Served::Exit(value) => return Ok(Next::End(Stop::Exit(value))),
+                Served::No if self.stops_at_trap() => return Ok(Next::End(Stop::Trap)),
+                Served::No if same => return Ok(Next::End(Stop::Stuck)),
+                Served::No => self.followed += 1,
             }
-            // A step is a function of hart, memory and map, and a trap leaves memory as it was.
-            if answer.count == 1 && *hart == self.state.hart {
-                return Some(Stop::Stuck);
-            }
-            self.followed += 1;
+        } else if same && self.limits.steps.is_none() {
+            return Ok(Next::End(Stop::Still));
         }
-        (self.count == self.limits.steps).then_some(Stop::Steps)
-    }
-
-    /// The state so many steps after `start`, which stands in the call just made.
-    fn replay(&self, mut start: State, steps: u64) -> Result<State, Failure> {
-        let State { hart, mem } = &mut start;
-        let again = sporhulma::run(hart, mem, &self.map.words, steps);
-        match (again.refusal, again.count) {
-            (0, count) if count == steps => Ok(start),
-            _ => Err(Failure::Tool(
-                "the same steps came out differently: a fault of the desk".into(),
-            )),
-        }
+        Ok(match self.left() {
+            0 => Next::End(Stop::Steps),
+            _ => Next::On,
+        })
     }
 
     /// The trace follows memory by what each step is explained to write: that this missed nothing is seen at the end.
@@ -190,22 +253,21 @@ impl<'a> Drive<'a> {
 
     fn end(self, stop: Stop, before: Option<State>, last: Answer) -> End {
         let cause = last.trapped.then_some(last.cause);
-        let Drive {
-            state: after,
-            count,
-            followed,
-            ..
-        } = self;
         End {
             stop,
-            count,
-            followed,
+            count: self.count,
+            followed: self.followed,
             cause,
             before,
-            after,
+            after: self.state,
+            watch: self.watch,
+            environment: self.environment,
         }
     }
 }
+
+/// Steps between two looks at the clock.
+const TOLD: u64 = 100_000;
 
 /// The answer where no step was made.
 const NOTHING: Answer = Answer {

@@ -49,18 +49,21 @@ pub const HEX_ABOUT: &str = "write a raw image as Intel HEX";
 /// What stands below the options.
 pub const STATUSES: &str = "\
 Exit status: 0 all went as asked, 1 the desk itself failed (for instance a full disk),
-  2 the input is wrong (one line on stderr says where and what would be right), 3 a run stopped
-  at a trap, or not at the trap that --expect names. docs/DESK.md has all of it.";
+  2 the input is wrong (one line on stderr says where and what would be right), 3 a run ended by a
+  trap or otherwise than asked; with --exit-status the program's own. docs/DESK.md has all of it.";
 
 pub const RUN: &str = "\
 What the image is is told by its content. An ELF file for RV64 is placed by its segments' physical
 addresses, an Intel HEX file where its records say, and a raw image at the start of memory, physical
 0x80000000. The hart starts in M with all registers and CSRs 0, at an ELF file's entry point or else
-at pc 0x80000000, and stops at the first trap or when its steps are spent. Addresses are told by
-name and line of source where an ELF file has them.
+at pc 0x80000000, and runs on to a trap, the program's exit, the last of --steps or Ctrl-C. Addresses
+are told by name and line of source where an ELF file has them.
 
-A program in user mode under Sv39 with its shadow stack:
-  desk run program.elf --user --expect ecall
+A C program in M with its console (docs/C.md is the quick start):
+  desk run program.elf --semihosting
+
+One in user mode under Sv39 with its shadow stack, and its exit value as the status:
+  desk run program.elf --user --syscalls --exit-status
 
 Numbers are written as 4096, 0x1000, 0b1000 or 1_000_000. The switches act on top of --csr.
 The same with a map of your own, traced:

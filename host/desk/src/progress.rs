@@ -1,39 +1,71 @@
 //! A line of progress on a terminal, for runs that take longer than a second.
 
-use indicatif::{ProgressBar, ProgressStyle};
+use crate::failure::Failure;
+use crate::interrupt::Interrupt;
+use crate::state::State;
+use crate::symbols::Symbols;
+use indicatif::{ProgressBar, ProgressState, ProgressStyle};
+use std::cell::Cell;
 use std::time::{Duration, Instant};
 
-pub struct Progress {
+pub struct Progress<'a> {
     /// Draws on stderr, and only where that is a terminal.
     bar: ProgressBar,
-    /// When the first line is due.
-    due: Instant,
+    /// When the next line is due.
+    due: Cell<Instant>,
+    interrupt: Interrupt,
+    symbols: &'a Symbols,
 }
 
-impl Progress {
-    pub fn start(steps: u64) -> Progress {
-        let bar = ProgressBar::new(steps);
+impl<'a> Progress<'a> {
+    /// For a run of so many steps; none where its end is not known.
+    pub fn start(steps: Option<u64>, symbols: &'a Symbols) -> Result<Progress<'a>, Failure> {
+        let (bar, form) = match steps {
+            Some(steps) => (
+                ProgressBar::new(steps),
+                "{human_pos} of {human_len} steps ({percent}%), {rate}, at {msg}",
+            ),
+            None => (
+                ProgressBar::new_spinner(),
+                "{human_pos} steps, {rate}, at {msg} (Ctrl-C ends it with a report)",
+            ),
+        };
         // A template that indicatif does not take would show in its own form.
-        if let Ok(style) =
-            ProgressStyle::with_template("{human_pos} of {human_len} steps ({percent}%), {per_sec}")
-        {
-            bar.set_style(style);
+        if let Ok(style) = ProgressStyle::with_template(form) {
+            bar.set_style(style.with_key("rate", rate));
         }
-        Progress {
+        Ok(Progress {
             bar,
-            due: Instant::now() + Duration::from_secs(1),
-        }
+            due: Cell::new(Instant::now() + Duration::from_secs(1)),
+            interrupt: Interrupt::new()?,
+            symbols,
+        })
     }
 
-    pub fn tick(&self, count: u64) {
-        if Instant::now() >= self.due {
+    pub fn tick(&self, count: u64, state: &State) {
+        if !self.bar.is_hidden() && Instant::now() >= self.due.get() {
+            self.due.set(Instant::now() + Duration::from_millis(200));
+            let place = self.symbols.shown(state.pc(), state.space());
+            self.bar.set_message(place);
             self.bar.set_position(count);
         }
     }
+
+    /// Whether the user wants it to end.
+    pub fn interrupted(&self) -> bool {
+        self.interrupt.pressed()
+    }
+}
+
+/// Steps a second, since the start.
+fn rate(state: &ProgressState, line: &mut dyn std::fmt::Write) {
+    let rate = state.pos() as f64 / state.elapsed().as_secs_f64() / 1e6;
+    // A line that cannot be written shows no rate.
+    let _ = write!(line, "{rate:.1} million a second");
 }
 
 /// Takes the line away, so that what is said at the end stands alone.
-impl Drop for Progress {
+impl Drop for Progress<'_> {
     fn drop(&mut self) {
         self.bar.finish_and_clear();
     }

@@ -3,11 +3,13 @@
 use crate::bits::LPE;
 use crate::drive::{End, Stop};
 use crate::dump;
+use crate::ends;
 use crate::explain::{cause_name, shadow_stack_on, Rows, Trap};
 use crate::facts::{hex, object, Facts};
 use crate::frames::{Scope, Table};
-use crate::map::PageMap;
+use crate::hints;
 use crate::names::{mode_name, SP};
+use crate::notes;
 use crate::setup::Job;
 use crate::symbols::Symbols;
 use crate::text;
@@ -20,7 +22,8 @@ pub struct Report {
     headline: String,
     rows: Rows,
     trap: Option<Trap>,
-    /// 0 if it ended as asked, 3 if not.
+    notes: Vec<String>,
+    /// 0 if it ended as asked, 3 if not; or the program's own, where that is asked for.
     pub status: u8,
 }
 
@@ -37,17 +40,22 @@ impl Report {
         let mut rows = trap
             .as_ref()
             .map_or_else(Vec::new, |trap| trap.rows.clone());
-        let next = if trap.is_some() { "handler" } else { "next" };
-        rows.push((next, end.after.next_text(map, &job.symbols)));
+        rows.push(match (end.stop, &end.before) {
+            (Stop::Exit(_), Some(before)) => ("at", before.next_text(map, &job.symbols)),
+            (Stop::Trap | Stop::Stuck, _) => ("handler", end.after.next_text(map, &job.symbols)),
+            _ => ("next", end.after.next_text(map, &job.symbols)),
+        });
         rows.extend(start(job).map(|start| ("start", start)));
         rows.extend(user(job));
-        let translated = job.state.hart.rest[word::SATP] != 0;
-        rows.extend(notes(end, map, translated).map(|note| ("note", note)));
-        let good = match (expect, &trap) {
-            (None, trap) => trap.is_none(),
-            (Some(expect), Some(trap)) => expect.causes.contains(&trap.cause),
-            (Some(_), None) => false,
+        let hints = hints::hints(end, trap.as_ref(), &job.state.hart, map);
+        rows.extend(hints.into_iter().map(|hint| ("hint", hint)));
+        rows.extend(end.environment.row().map(|calls| ("calls", calls)));
+        let notes = match end.count {
+            0 => Vec::new(),
+            _ => notes::notes(&end.watch),
         };
+        rows.extend(notes.iter().map(|note| ("note", note.clone())));
+        let good = ends::as_asked(end, trap.as_ref(), expect);
         if let Some(expect) = expect {
             let verdict = if good {
                 "as --expect asks"
@@ -56,11 +64,18 @@ impl Report {
             };
             rows.push(("expect", format!("{verdict}: {}", expect.text)));
         }
-        let status = if good { 0 } else { 3 };
+        let status = match end.stop {
+            _ if job.strict && !notes.is_empty() => 3,
+            // As a system hands it on: the low eight bits.
+            Stop::Exit(value) if job.exit_status => value as u8,
+            _ if good => 0,
+            _ => 3,
+        };
         Report {
-            headline: headline(end, trap.as_ref()),
+            headline: ends::headline(end, trap.as_ref()),
             rows,
             trap,
+            notes,
             status,
         }
     }
@@ -71,11 +86,6 @@ impl Report {
 
     /// The object that docs/DESK.md describes.
     pub fn json(&self, end: &End, job: &Job) -> Value {
-        let stopped = match end.stop {
-            Stop::Steps => "steps",
-            Stop::Trap => "trap",
-            Stop::Stuck => "stuck",
-        };
         let headline = Value::from(self.headline.as_str());
         let rows = self
             .rows
@@ -87,7 +97,7 @@ impl Report {
             .map(|&(address, length)| dumped(end, address, length));
         let mut members = vec![
             ("status", Value::from(self.status)),
-            ("stopped", Value::from(stopped)),
+            ("stopped", Value::from(ends::name(end.stop))),
             ("count", Value::from(end.count)),
             ("followed", Value::from(end.followed)),
             ("trap", self.trap.as_ref().map_or(Value::Null, trap_json)),
@@ -96,12 +106,19 @@ impl Report {
                 Value::Array([headline].into_iter().chain(rows).collect()),
             ),
         ];
+        let exit = match end.stop {
+            Stop::Exit(value) => Value::from(value),
+            _ => Value::Null,
+        };
         let start = job.image.start.map_or(Value::Null, hex);
         let image = [
             ("format", Value::from(job.image.format_name())),
             ("start", start),
         ];
         members.push(("image", object(image)));
+        members.push(("exit", exit));
+        members.push(("calls", end.environment.json()));
+        members.push(("notes", Value::from(self.notes.clone())));
         members.extend(hart_json(end, &job.symbols));
         members.push(("dump", Value::Array(dumps.collect())));
         if let Some(layout) = &job.layout {
@@ -130,29 +147,6 @@ fn hart_json(end: &End, symbols: &Symbols) -> Facts {
         ("csrs", object(csrs)),
     ]);
     members
-}
-
-fn headline(end: &End, trap: Option<&Trap>) -> String {
-    let followed = match end.followed {
-        0 => String::new(),
-        1 => ", 1 trap before it followed".into(),
-        more => format!(", {more} traps before it followed"),
-    };
-    let step = end.count;
-    match (end.stop, trap) {
-        (Stop::Trap, Some(trap)) => {
-            format!("Stopped by a trap in step {step}{followed}: {}.", trap.headline())
-        }
-        (Stop::Stuck, Some(trap)) => format!(
-            "Stuck in step {step}{followed}: this trap leaves the hart exactly as it was, for ever: {}.",
-            trap.headline()
-        ),
-        _ => {
-            let followed = followed.replace(" before it", "");
-            let steps = if step == 1 { "step" } else { "steps" };
-            format!("Stopped after {step} {steps}, all that --steps allows{followed}.")
-        }
-    }
 }
 
 /// The start address that the image gives, and whether the hart began there.
@@ -197,23 +191,6 @@ fn user(job: &Job) -> Rows {
             format!("at pc {pc} with sp {sp:#x} and ssp {ssp:#x}"),
         ),
     ]
-}
-
-/// Hints about slips that are easily made.
-fn notes(end: &End, map: &PageMap, translated: bool) -> impl Iterator<Item = String> {
-    let bare = end.after.hart.rest[word::SATP] == 0 && !translated;
-    let unused = (bare && !map.entries.is_empty()).then(|| {
-        "the map was not in use: satp is Bare at the start and at the end (--sv39 turns it on)"
-            .into()
-    });
-    let still = end.stop == Stop::Steps
-        && end
-            .before
-            .as_ref()
-            .is_some_and(|b| b.hart == end.after.hart && b.mem == end.after.mem);
-    let still =
-        still.then(|| "the last step changed nothing: the program waits here for ever".into());
-    unused.into_iter().chain(still)
 }
 
 fn trap_json(trap: &Trap) -> Value {

@@ -1,6 +1,7 @@
 //! `desk run`: runs an image and says where and why it stopped.
 
-use crate::drive::{Drive, End, Step};
+use crate::drive::{Drive, End, Shown};
+use crate::environment::{Environment, Output as Console};
 use crate::facts;
 use crate::failure::Failure;
 use crate::output::Output;
@@ -8,8 +9,8 @@ use crate::progress::Progress;
 use crate::report::{tables, Report};
 use crate::run_options::RunOptions;
 use crate::setup::Job;
-use crate::trace::Trace;
-use std::io::Write;
+use crate::trace::{served, Trace};
+use std::io::{stderr, Write};
 
 /// Runs what the options ask for; the answer is the exit status.
 pub fn run(options: &RunOptions, out: &mut dyn Write) -> Result<u8, Failure> {
@@ -20,29 +21,51 @@ pub fn run(options: &RunOptions, out: &mut dyn Write) -> Result<u8, Failure> {
     if let Some(output) = save {
         output.replace(|file| Ok(file.write_all(&end.after.mem)?))?;
     }
-    match job.json {
-        true => write!(out, "{}", facts::text(&report.json(&end, &job)))?,
-        false => write!(out, "{}{}", report.text(), tables(&end, &job))?,
+    let text = match job.json {
+        true => facts::text(&report.json(&end, &job)),
+        false => report.text() + &tables(&end, &job),
+    };
+    // What the program wrote stands before the report, and where its exit value is the status, it stands alone.
+    match (
+        job.exit_status && !job.json,
+        end.environment.ended_in_line(),
+    ) {
+        (true, _) => write!(stderr(), "{text}")?,
+        (false, true) => write!(out, "\n{text}")?,
+        (false, false) => write!(out, "{text}")?,
     }
     Ok(report.status)
 }
 
 /// The run itself, traced or not.
 fn drive(job: &Job, trace_to: Option<Output>, out: &mut dyn Write) -> Result<End, Failure> {
-    let drive = Drive::start(job.state.clone(), &job.map, job.limits)?;
-    let progress = Progress::start(job.limits.steps);
+    let environment = environment(job, trace_to.is_some());
+    let drive = Drive::start(job.state.clone(), &job.map, job.limits, environment)?;
+    let progress = Progress::start(job.limits.steps, &job.symbols)?;
     let mut trace = Trace::new(&job.map, &job.symbols);
-    let mut show = |step: &Step, to: &mut dyn Write| -> Result<(), Failure> {
-        Ok(to.write_all(trace.lines(step).as_bytes())?)
+    let mut show = |shown: Shown, to: &mut dyn Write| -> Result<(), Failure> {
+        let lines = match shown {
+            Shown::Step(step) => trace.lines(&step),
+            Shown::Served(state) => served(state, &job.symbols),
+        };
+        Ok(to.write_all(lines.as_bytes())?)
     };
     match (job.trace, trace_to) {
         (false, _) => drive.run(&progress),
-        (true, None) => drive.trace(&mut |step: &Step| show(step, out)),
-        (true, Some(output)) => output.replace(|file| {
-            drive.trace(&mut |step: &Step| {
-                progress.tick(step.number);
-                show(step, file)
-            })
-        }),
+        (true, None) => drive.trace(&progress, &mut |shown| show(shown, out)),
+        (true, Some(output)) => {
+            output.replace(|file| drive.trace(&progress, &mut |shown| show(shown, file)))
+        }
     }
+}
+
+/// What serves the program's calls. What it writes goes to the output, where that is not taken by a trace or an object.
+fn environment(job: &Job, traced_apart: bool) -> Environment {
+    let taken = job.json || (job.trace && !traced_apart);
+    let console = if taken {
+        Console::Stderr
+    } else {
+        Console::Stdout
+    };
+    Environment::new(job.services, job.state.mode(), job.symbols.end, console)
 }

@@ -38,12 +38,20 @@ pub struct RunOptions {
     pub user: bool,
     #[command(flatten)]
     pub start: StartOptions,
-    #[arg(long, value_name = "N", default_value = "1000000", hide_default_value = true, allow_negative_numbers = true, value_parser = number, help = "the most steps, any number (default 1000000)")]
-    pub steps: u64,
+    #[arg(long, value_name = "N", allow_negative_numbers = true, value_parser = number, help = "the most steps, any number (default: on to the program's end; Ctrl-C ends it with a report)")]
+    pub steps: Option<u64>,
     #[arg(long, value_name = "N|all", default_value = "0", hide_default_value = true, value_parser = follow, help = "go on after the first N traps, or after all (default 0: stop at the first trap)")]
     pub follow: u64,
-    #[arg(long, value_name = "TRAP", value_parser = expect, help = "exit status 0 exactly if it stops at this trap: ecall, ebreak or a cause's number")]
+    #[arg(long, value_name = "END", value_parser = expect, help = "exit status 0 exactly if it ends so: ecall, ebreak or a trap's cause, exit or exit=VALUE")]
     pub expect: Option<Expect>,
+    #[arg(long, help = "serve the program's semihosting calls: console and exit (see docs/DESK.md)")]
+    pub semihosting: bool,
+    #[arg(long, help = "serve its ECALLs as system calls, by newlib's numbers: exit, write, read, brk, fstat, close (see docs/DESK.md)")]
+    pub syscalls: bool,
+    #[arg(long, conflicts_with = "expect", help = "end with the program's exit value as status, and write the report to stderr")]
+    pub exit_status: bool,
+    #[arg(long, help = "exit status 3 if there is a note: something that is on had no effect")]
+    pub strict: bool,
     #[arg(long, help = "write each step: address, word, text, what changed")]
     pub trace: bool,
     #[arg(long, value_name = "FILE", value_parser = some_text(), help = "write the trace there and not to the output")]
@@ -169,11 +177,19 @@ pub enum Pc {
     At(u64),
 }
 
-/// A trap that the user waits for.
+/// The end that the user waits for.
 #[derive(Clone)]
 pub struct Expect {
     pub text: String,
-    pub causes: Vec<u64>,
+    pub wanted: Wanted,
+}
+
+#[derive(Clone)]
+pub enum Wanted {
+    /// A trap with one of these causes.
+    Causes(Vec<u64>),
+    /// An exit, with this value or with any.
+    Exit(Option<i32>),
 }
 
 /// What may be any text but an empty one.
@@ -225,18 +241,19 @@ fn follow(text: &str) -> Result<u64, String> {
 }
 
 fn expect(text: &str) -> Result<Expect, String> {
-    let causes = match (text, number(text)) {
-        ("ecall", _) => vec![8, 9, 11],
-        ("ebreak", _) => vec![3],
-        (_, Ok(cause)) if cause < 64 => vec![cause],
-        _ => {
-            return Err(format!(
-                "'{text}' is no trap; write ecall, ebreak or a cause below 64"
-            ))
-        }
+    let wrong =
+        || format!("'{text}' is no end; write ecall, ebreak, a cause below 64, exit or exit=0");
+    let exit = |value: &str| value.parse().map(|value| Wanted::Exit(Some(value)));
+    let wanted = match (text, number(text), text.strip_prefix("exit=")) {
+        ("ecall", ..) => Wanted::Causes(vec![8, 9, 11]),
+        ("ebreak", ..) => Wanted::Causes(vec![3]),
+        ("exit", ..) => Wanted::Exit(None),
+        (_, Ok(cause), _) if cause < 64 => Wanted::Causes(vec![cause]),
+        (_, _, Some(value)) => exit(value).map_err(|_| wrong())?,
+        _ => return Err(wrong()),
     };
     Ok(Expect {
         text: text.into(),
-        causes,
+        wanted,
     })
 }

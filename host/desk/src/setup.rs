@@ -1,6 +1,7 @@
 //! From the options of `desk run` to what is run: the state at the start, the map, the limits, the outputs.
 
 use crate::drive::Limits;
+use crate::environment::Services;
 use crate::failure::Failure;
 use crate::image;
 use crate::layout::Layout;
@@ -8,7 +9,7 @@ use crate::load::{self, load, Image, Loaded};
 use crate::map::PageMap;
 use crate::number::{number, size};
 use crate::output::{self, Output};
-use crate::run_options::{Expect, RunOptions};
+use crate::run_options::{Expect, RunOptions, Wanted};
 use crate::start::{self, hart, pc};
 use crate::state::State;
 use crate::symbols::Symbols;
@@ -26,6 +27,11 @@ pub struct Job {
     pub symbols: Symbols,
     pub limits: Limits,
     pub expect: Option<Expect>,
+    pub services: Services,
+    /// Whether the program's exit value is the status.
+    pub exit_status: bool,
+    /// Whether a note is an end that was not asked for.
+    pub strict: bool,
     pub trace: bool,
     pub trace_to: Option<Output>,
     pub registers: bool,
@@ -50,6 +56,7 @@ impl Job {
         let mut hart = hart(user.map_or_else(Hart::fresh, start::user), &options.start)?;
         hart.rest[word::PC] = pc(&options.start, &image)?.unwrap_or(hart.rest[word::PC]);
         let state = State { hart, mem };
+        let services = services(options)?;
         let limits = Limits {
             steps: options.steps,
             follow: options.follow,
@@ -65,6 +72,9 @@ impl Job {
             layout,
             dumps: dumps(options)?,
             expect: options.expect.clone(),
+            services,
+            exit_status: options.exit_status,
+            strict: options.strict,
             trace: options.trace || options.trace_to.is_some(),
             trace_to: output(options, "--trace-to", &options.trace_to)?,
             registers: options.registers,
@@ -76,6 +86,28 @@ impl Job {
             limits,
         })
     }
+}
+
+/// What serves the program's calls: something must, where its exit is waited for.
+fn services(options: &RunOptions) -> Result<Services, Failure> {
+    let services = Services {
+        semihosting: options.semihosting,
+        syscalls: options.syscalls,
+    };
+    let exit = |expect: &Expect| matches!(expect.wanted, Wanted::Exit(_));
+    let waits = match (
+        options.exit_status,
+        options.expect.as_ref().is_some_and(exit),
+    ) {
+        (true, _) => "--exit-status",
+        (_, true) => "--expect",
+        _ => return Ok(services),
+    };
+    if !services.semihosting && !services.syscalls {
+        let wrong = "nothing serves an exit of the program; add --syscalls or --semihosting";
+        return Err(Failure::at(waits, wrong));
+    }
+    Ok(services)
 }
 
 /// The page map of a file.

@@ -35,14 +35,19 @@ impl State {
         follow(&self.hart, self.mem.len() as u64, map, access)
     }
 
-    /// The word that the next step fetches, or the path of the fetch that is refused.
-    pub fn next_word(&self, map: &PageMap) -> Result<u32, Box<Path>> {
+    /// How the next step's fetch goes.
+    pub fn fetch(&self, map: &PageMap) -> Path {
         let fetch = Access {
             kind: Kind::Fetch,
             width: 4,
             address: self.pc(),
         };
-        let path = self.path(map, fetch);
+        self.path(map, fetch)
+    }
+
+    /// The word that the next step fetches, or the path of the fetch that is refused.
+    pub fn next_word(&self, map: &PageMap) -> Result<u32, Box<Path>> {
+        let path = self.fetch(map);
         match path.end {
             Ok(physical) => Ok(self.bytes(physical, 4) as u32),
             Err(_) => Err(Box::new(path)),

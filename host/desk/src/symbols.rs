@@ -56,6 +56,8 @@ pub struct Symbols {
     /// Those that have none, as an assembler's labels.
     labels: Vec<Symbol>,
     lines: Option<Context<EndianRcSlice<RunTimeEndian>>>,
+    /// The address behind the program's data, where its heap may begin.
+    pub end: Option<u64>,
     /// Where the caller stands: a file below is shown from there.
     here: PathBuf,
 }
@@ -83,6 +85,7 @@ impl Symbols {
                 true => Some(Context::new(&elf.file).map_err(wrong)?),
                 false => None,
             },
+            end: end(elf),
             here: std::env::current_dir().unwrap_or_default(),
         })
     }
@@ -226,6 +229,23 @@ fn named<'data>(symbol: &impl ObjectSymbol<'data>, segments: &[Segment]) -> Opti
         name: name.into(),
         rank: 2 * function + bound.min(1),
     })
+}
+
+/// The linker's symbol `_end`; else the end of the last segment that can be written.
+fn end(elf: &Elf) -> Option<u64> {
+    let named = |symbol: &object::read::elf::ElfSymbol64<'_, '_, object::LittleEndian>| {
+        symbol.name() == Ok("_end")
+    };
+    let symbol = elf
+        .file
+        .symbols()
+        .find(named)
+        .map(|symbol| symbol.address());
+    let data = elf
+        .segments
+        .iter()
+        .filter(|segment| segment.rights.contains('w'));
+    symbol.or_else(|| data.map(|segment| segment.pages().end).max())
 }
 
 /// In rising order, and of each address the symbol that counts.

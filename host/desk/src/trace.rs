@@ -5,6 +5,7 @@ use crate::drive::Step;
 use crate::explain::cause_name;
 use crate::map::PageMap;
 use crate::names::mode_name;
+use crate::state::State;
 use crate::symbols::Symbols;
 use crate::text::wrapped;
 use disasm::register;
@@ -61,6 +62,13 @@ impl<'a> Trace<'a> {
             .to_string()
             + "\n"
     }
+}
+
+/// The line behind a call that was served.
+pub fn served(state: &State, symbols: &Symbols) -> String {
+    let (a0, mode) = (state.hart.x[10], mode_name(state.mode()));
+    let place = symbols.told(state.pc(), state.space());
+    format!("        served: a0={a0:#x}, on at {place} in {mode}\n")
 }
 
 /// What a step changed: pc if it did not just go on, registers, the other fields; and what it wrote to memory.

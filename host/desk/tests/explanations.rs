@@ -95,6 +95,8 @@ Stopped by a trap in step 1: cause 7 (store access fault), tval 0x30000, from U 
   refused   by rule 7 of \"From address to byte\": an ordinary store to a shadow page
   entry     0x30000 -> 0x80002000 v-w-u-ad (line 2 of the map)
   handler   0x0 in M: no word can be fetched there
+  note      the shadow stack is on, and no push or pop-check was met: the program may be built
+            without them (docs/C.md)
 ",
     );
 }
@@ -119,6 +121,7 @@ Stopped by a trap in step 1: cause 13 (load page fault), tval 0x5400000000020008
   masking   off for this access: mstatus has MPRV and MXR both set (masked, it would be at 0x20008)
   refused   by rule 5 of \"From address to byte\": bits 63:39 of the address do not equal bit 38
   handler   0x0 in M: no word can be fetched there
+  note      masking is on, and changed the address of no access
 ",
     );
     says(
@@ -135,6 +138,9 @@ Stopped by a trap in step 1: cause 7 (store access fault), tval 0x54000000800000
   refused   by rule 9 of \"From address to byte\": physical 0x5400000080000008 lies outside memory
             (0x80000000 to 0x80003fff)
   handler   0x0 in M: no word can be fetched there
+  note      the map was not in use: no access was made in S or U with satp on (--sv39 turns it on,
+            --mode U starts in U)
+  note      masking is on, and changed the address of no access
 ",
     );
 }
@@ -147,7 +153,7 @@ fn a_tag_that_is_masked_beside_request_a2() {
         &[LD_A0_A1],
         &monitor("0x20000", "0x5400000000020008"),
         "\
-Stopped after 1 step, all that --steps allows.
+The program had not ended after 1 step, all that --steps allows.
   next      0x80000004 in M: 00000000  .word 0x00000000
 ",
     );
@@ -163,6 +169,8 @@ Stopped by a trap in step 1: cause 5 (load access fault), tval 0x20008, from M t
   refused   by rule 9 of \"From address to byte\": physical 0x20008 lies outside memory (0x80000000 to
             0x80003fff)
   handler   0x0 in M: no word can be fetched there
+  note      the map was not in use: no access was made in S or U with satp on (--sv39 turns it on,
+            --mode U starts in U)
 ",
     );
     let options = format!("{USER} --masking 7 --csr mstatus=0xa0000 --x a1=0x5400000000030000");
@@ -281,20 +289,23 @@ fn illegal_instructions() {
     let desk = Desk::new("illegal");
     for (word, options, why) in [
         (0x0000_0000, "", "no instruction of this hart has this word; it is empty memory: the program ran into a\n            place where no code is"),
-        (0x0000_4501, "", "no instruction of this hart has this word; its two low bits are not 11, as in a 16-bit\n            instruction (C)"),
+        (0x0000_4501, "", "no instruction of this hart has this word; it looks like C.LI (C, which the hart lacks:\n            compile with -march=rv64im)"),
         (0x40b5_7533, "", "no instruction of this hart has this word; it looks like ANDN (Zbb)"),
         (0x0805_053b, "", "no instruction of this hart has this word; it looks like ADD.UW (Zba)"),
         (0x0ab5_1533, "", "no instruction of this hart has this word; it looks like CLMUL (Zbc)"),
         (0x2835_1513, "", "no instruction of this hart has this word; it looks like BSETI (Zbs)"),
         (0x6035_1513, "", "no instruction of this hart has this word"),                      // one after cpop a0,a0
         (0x02b5_153b, "", "no instruction of this hart has this word"),                      // there is no mulhw
-        (0x00b5_252f, "", "no instruction of this hart has this word; it looks like an atomic memory operation (A)"),
-        (0x0005_3507, "", "no instruction of this hart has this word; it looks like floating point (F or D)"),
+        (0x00b5_252f, "", "no instruction of this hart has this word; it looks like AMOADD.W (A, which the hart\n            lacks: compile with -march=rv64im)"),
+        (0x0005_3507, "", "no instruction of this hart has this word; it looks like FLD (D, which the hart lacks:\n            compile with -march=rv64im)"),
         (0x0000_100f, "", "no instruction of this hart has this word; it looks like FENCE.I"),
         (0x1050_0073, "", "no instruction of this hart has this word; it is WFI"),
         (0x1200_0073, "", "no instruction of this hart has this word; it looks like SFENCE.VMA"),
         (0xffff_ffff, "", "no instruction of this hart has this word"),
-        (0xf140_2573, "", "the hart has no CSR 0xf14"),                                     // csrr a0,mhartid
+        (0x7c00_2573, "", "the hart has no CSR 0x7c0"),
+        (0x3b10_2573, "", "the hart has no CSR 0x3b1 (pmpaddr1)"),
+        (0xb1f0_2573, "", "the hart has no CSR 0xb1f (mhpmcounter31)"),
+        (0xf140_2573, "", "the hart has no CSR 0xf14 (mhartid)"),                                     // csrr a0,mhartid
         (0x3000_2573, "--mode S", "CSR mstatus needs mode M, and the hart is in S"),         // csrr a0,mstatus
         (0x0110_2573, "--mode S", "CSR ssp in S needs menvcfg.SSE, which is 0"),             // csrr a0,ssp
         (0x0110_2573, "--mode U --csr menvcfg=8", "CSR ssp in U needs senvcfg.SSE, which is 0"),
@@ -318,7 +329,7 @@ fn steps_that_ran_out() {
         &[NOP, NOP],
         "--memory 4K --steps 1",
         "\
-Stopped after 1 step, all that --steps allows.
+The program had not ended after 1 step, all that --steps allows.
   next      0x80000004 in M: 00000013  nop
 ",
     );
@@ -327,10 +338,11 @@ Stopped after 1 step, all that --steps allows.
         &[J_SELF],
         "--memory 4K --steps 5 --map user.map",
         "\
-Stopped after 5 steps, all that --steps allows.
+The program had not ended after 5 steps, all that --steps allows.
   next      0x80000000 in M: 0000006f  j 0x80000000
-  note      the map was not in use: satp is Bare at the start and at the end (--sv39 turns it on)
-  note      the last step changed nothing: the program waits here for ever
+  hint      the last step changed nothing: the program waits here for ever
+  note      the map was not in use: no access was made in S or U with satp on (--sv39 turns it on,
+            --mode U starts in U)
 ",
     );
 }
@@ -350,6 +362,61 @@ Stuck in step 3, 2 traps before it followed: this trap leaves the hart exactly a
   refused   by rule 9 of \"From address to byte\": physical 0x0 lies outside memory (0x80000000 to
             0x80000fff)
   handler   0x0 in M: no word can be fetched there
+  hint      pc is 0: a return or a call by an address that was never set, or a trap with tvec 0
 ",
     );
+}
+
+/// Slips that are easily made, with what would mend them.
+#[test]
+fn hints() {
+    let desk = Desk::new("hints");
+    let sd_sp = 0xfe11_3c23; // sd ra,-8(sp)
+    for (words, options, hint) in [
+        (
+            vec![SSPUSH_RA],
+            format!("{USER} --shadow-stack"),
+            "ssp is 0: no shadow stack was set up; --ssp ADDRESS gives the end of its pages (--user sets it)",
+        ),
+        (
+            vec![sd_sp],
+            format!("{USER} --steps 9"),
+            "sp was 0 at the start: no stack was set up; --x sp=ADDRESS gives its end (--user sets it)",
+        ),
+        (
+            vec![sd_sp],
+            "--memory 4K".to_string(),
+            "sp was 0 at the start: no stack was set up; --x sp=ADDRESS gives its end (--user sets it)",
+        ),
+        (
+            vec![NOP],
+            "--memory 4K --pc 0x10000".to_string(),
+            "the run began at 0x10000, outside memory (0x80000000 to 0x80000fff); --pc ADDRESS says where the program starts",
+        ),
+        (
+            vec![JR_A0],
+            "--memory 4K --x a0=0x90000000".to_string(),
+            "the program jumped to 0x90000000, outside memory (0x80000000 to 0x80000fff)",
+        ),
+        (
+            vec![JR_A0],
+            "--memory 4K".to_string(),
+            "pc is 0: a return or a call by an address that was never set, or a trap with tvec 0",
+        ),
+    ] {
+        desk.image("p.bin", &words);
+        let said = desk.run(&format!("run p.bin {options}")).out;
+        let words: Vec<&str> = said.split_whitespace().collect();
+        let hint = format!("hint {hint}");
+        assert!(words.join(" ").contains(&hint), "{options}: {said}");
+    }
+    // None where the pointers are set and the fault has another reason.
+    desk.image("p.bin", &[sd_sp]);
+    let said = desk.run(&format!("run p.bin {USER} --x sp=0x10000")).out;
+    assert!(!said.contains("hint"), "{said}");
+    desk.image("p.bin", &[SSPUSH_RA]);
+    let said = desk
+        .run(&format!("run p.bin {USER} --shadow-stack --ssp 0x21000"))
+        .out;
+    assert!(!said.contains("hint"), "{said}");
 }

@@ -92,7 +92,7 @@ fn a_trace_says_where_it_is() {
     let desk = Desk::new("names-trace");
     desk.file("p.elf", unlock().bytes());
     let outcome = desk.run(&format!("run p.elf {OPTIONS} --trace --steps 6"));
-    let (trace, _) = outcome.out.split_once("Stopped").unwrap();
+    let (trace, _) = outcome.out.split_once("The program had not ended").unwrap();
     assert_eq!(
         trace,
         "0x10000 <main+0x0> unlock.c:3

@@ -360,7 +360,9 @@ fn a_trap_loop_that_changes_memory_is_not_stuck() {
     );
     assert_eq!(outcome.status, 0, "{}", outcome.out);
     assert!(
-        outcome.out.contains("Stopped after 50 steps"),
+        outcome
+            .out
+            .contains("The program had not ended after 50 steps"),
         "{}",
         outcome.out
     );

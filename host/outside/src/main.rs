@@ -1,10 +1,11 @@
-//! `tools/outside`: the hart, its disassembler and its loader of Intel HEX against what none of us
-//! wrote: QEMU, GNU binutils and srecord.
+//! `tools/outside`: the hart, its disassembler, its loader of Intel HEX and the desk's environment
+//! against what none of us wrote: QEMU, GNU binutils, srecord, and C programs by GCC and clang.
 //!
 //! This file reads the command line, runs the comparisons that were asked for and turns what they
 //! found into an exit status.
 
 mod assembler;
+mod c;
 mod encode;
 mod gnu;
 mod hex;
@@ -24,8 +25,8 @@ use report::say;
 use std::process::ExitCode;
 
 const HELP: &str = "\
-tools/outside [COMPARISON] [OPTION ..]: the hart, its disassembler and its loader of Intel HEX against
-QEMU, GNU binutils and srecord
+tools/outside [COMPARISON] [OPTION ..]: the hart, its disassembler, its loader of Intel HEX and the desk's
+environment against QEMU, GNU binutils and srecord
 
 COMPARISON, all of them one after the other if none is given:
   objdump   the text of many words, beside GNU objdump's
@@ -33,6 +34,7 @@ COMPARISON, all of them one after the other if none is given:
   qemu      random programs, step by step beside QEMU's riscv64 system emulator
   image     examples/torque, assembled again, gives the committed images
   hex       Intel HEX of GNU objcopy and srec_cat is loaded byte for byte, and they read what desk hex writes
+  c         examples/c, by GCC and clang: the desk and QEMU give the same text and exit value
 
 OPTION:
   --seed S       where the random words, programs and images start from (default 1)
@@ -79,6 +81,7 @@ fn compare(options: &Options) -> Result<u64, String> {
             Comparison::Qemu => lockstep::compare(options.seed, options.programs.clone())?,
             Comparison::Image => image::compare()?,
             Comparison::Hex => hex::compare(options.seed)?,
+            Comparison::C => c::compare()?,
         };
     }
     Ok(differences)

@@ -9,14 +9,16 @@ pub enum Comparison {
     Qemu,
     Image,
     Hex,
+    C,
 }
 
-const COMPARISONS: [(&str, Comparison); 5] = [
+const COMPARISONS: [(&str, Comparison); 6] = [
     ("objdump", Comparison::Objdump),
     ("as", Comparison::As),
     ("qemu", Comparison::Qemu),
     ("image", Comparison::Image),
     ("hex", Comparison::Hex),
+    ("c", Comparison::C),
 ];
 
 #[derive(PartialEq, Eq, Debug)]
@@ -56,7 +58,7 @@ pub fn read(given: &[String]) -> Result<Option<Options>, String> {
 fn comparison(name: &str) -> Result<Comparison, String> {
     let known = COMPARISONS.iter().find(|(known, _)| *known == name);
     known.map(|(_, comparison)| *comparison).ok_or_else(|| {
-        format!("{name}: no such comparison or option; there are objdump, as, qemu, image, hex, --seed S, --programs N and --program N")
+        format!("{name}: no such comparison or option; there are objdump, as, qemu, image, hex, c, --seed S, --programs N and --program N")
     })
 }
 
@@ -91,7 +93,8 @@ mod tests {
                 Comparison::As,
                 Comparison::Qemu,
                 Comparison::Image,
-                Comparison::Hex
+                Comparison::Hex,
+                Comparison::C
             ]
         );
         assert_eq!((options.seed, options.programs), (1, 0..40));

@@ -15,10 +15,10 @@ const MEMORIES: usize = 500;
 const HARTS: usize = 100;
 
 /// Marsaglia's xorshift: the same numbers in every run.
-struct Random(u64);
+pub struct Random(pub u64);
 
 impl Random {
-    fn next(&mut self) -> u64 {
+    pub fn next(&mut self) -> u64 {
         self.0 ^= self.0 << 13;
         self.0 ^= self.0 >> 7;
         self.0 ^= self.0 << 17;
@@ -29,7 +29,7 @@ impl Random {
         (self.next() >> 11) % limit
     }
 
-    fn pick<T: Copy>(&mut self, from: &[T]) -> T {
+    pub fn pick<T: Copy>(&mut self, from: &[T]) -> T {
         from[self.below(from.len() as u64) as usize]
     }
 
@@ -54,7 +54,7 @@ impl Random {
     }
 }
 
-fn hart(random: &mut Random) -> Hart {
+pub fn hart(random: &mut Random) -> Hart {
     let mut hart = Hart::fresh();
     for n in 1..32 {
         hart.x[n] = random.address();
@@ -76,7 +76,7 @@ fn hart(random: &mut Random) -> Hart {
 }
 
 /// Four pages: mostly code, a shadow stack, data and code again, each now and then with a bit turned over.
-fn map(random: &mut Random) -> PageMap {
+pub fn map(random: &mut Random) -> PageMap {
     let mut map = PageMap::default();
     let pages = [(1, 0xdb), (2, 0xd5), (3, 0xd7), (0x7ff_ffff, 0xdf)];
     for (line, (page, usual)) in pages.into_iter().enumerate() {
@@ -91,7 +91,7 @@ fn map(random: &mut Random) -> PageMap {
 }
 
 /// A word: mostly one that can trap, with random registers.
-fn instruction(random: &mut Random) -> u32 {
+pub fn instruction(random: &mut Random) -> u32 {
     let free = random.next() as u32;
     let opcode = random.pick(&[
         0x03, 0x23, 0x63, 0x67, 0x6f, 0x73, 0x2f, 0x17, 0x13, 0x33, 0x7f, 0x0f,

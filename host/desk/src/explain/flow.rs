@@ -20,7 +20,8 @@ pub fn shadow_stack_on(hart: &Hart) -> bool {
     }
 }
 
-fn pads_on(hart: &Hart) -> bool {
+/// Whether landing pads are on in the current mode.
+pub fn pads_on(hart: &Hart) -> bool {
     let enable = match hart.rest[word::MODE] {
         U => hart.rest[word::SENVCFG] & LPE,
         S => hart.rest[word::MENVCFG] & LPE,

@@ -1,6 +1,7 @@
 //! Why an instruction is illegal.
 
-use super::{family, flow, Verdict};
+use super::foreign::foreign;
+use super::{csrs, family, flow, Verdict};
 use crate::names::{mode_name, M, U};
 use disasm::Word;
 use formats::extensions::absent;
@@ -43,7 +44,8 @@ pub fn reason(hart: &Hart, instruction: u32, family: u64) -> Option<String> {
 fn csr(hart: &Hart, address: u16) -> Option<String> {
     let mode = hart.rest[word::MODE];
     let Some(name) = disasm::csr_name(address) else {
-        return Some(format!("the hart has no CSR {address:#05x}"));
+        let name = csrs::lacking(address).map_or_else(String::new, |name| format!(" ({name})"));
+        return Some(format!("the hart has no CSR {address:#05x}{name}"));
     };
     let least = u64::from(address >> 8 & 3);
     if mode < least {
@@ -68,6 +70,12 @@ fn unknown(word: u32) -> String {
     if let Some(absent) = absent(word) {
         let name = absent.name.to_uppercase();
         return format!("{UNKNOWN}; it looks like {name} ({})", absent.extension);
+    }
+    if let Some((name, extension)) = foreign(word) {
+        let name = name.to_uppercase();
+        return format!(
+            "{UNKNOWN}; it looks like {name} ({extension}, which the hart lacks: compile with -march=rv64im)"
+        );
     }
     let funct3 = word >> 12 & 7;
     let looks = match word & 0x7f {

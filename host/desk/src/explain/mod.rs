@@ -5,13 +5,15 @@
 //! the explanation says so and gives no reason.
 
 #[cfg(test)]
-mod agreement;
+pub mod agreement;
+mod csrs;
 mod fault;
 mod flow;
+mod foreign;
 mod illegal;
 mod shadow;
 
-pub use flow::shadow_stack_on;
+pub use flow::{pads_on, shadow_stack_on};
 
 use crate::facts::Facts;
 use crate::map::PageMap;
@@ -27,7 +29,7 @@ use std::ops::Range;
 pub type Rows = Vec<(&'static str, String)>;
 
 /// The decoder's families that can trap, as `sporhulma::family` numbers them.
-mod family {
+pub mod family {
     pub const ILLEGAL: u64 = 0;
     pub const JAL: u64 = 3;
     pub const JALR: u64 = 4;
@@ -169,7 +171,7 @@ fn expected(before: &State, map: &PageMap, symbols: &Symbols) -> Option<Verdict>
 }
 
 /// The access that a memory instruction makes, if the word is one and makes one.
-fn access(before: &State, word: u32) -> Option<Access> {
+pub fn access(before: &State, word: u32) -> Option<Access> {
     let fields = Word(word);
     let hart = &before.hart;
     let ssp = hart.rest[word::SSP];

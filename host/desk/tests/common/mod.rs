@@ -8,7 +8,7 @@ pub mod json;
 use json::{Reader, Value};
 use std::fs;
 use std::path::PathBuf;
-use std::process::{Command, Stdio};
+use std::process::{Command, Output, Stdio};
 
 // Words of small programs, as the GNU assembler gives them.
 pub const NOP: u32 = 0x0000_0013;
@@ -43,6 +43,16 @@ pub struct Outcome {
     pub status: i32,
     pub out: String,
     pub err: String,
+}
+
+impl Outcome {
+    pub fn of(output: Output) -> Outcome {
+        Outcome {
+            status: output.status.code().expect("the desk ended by itself"),
+            out: String::from_utf8(output.stdout).unwrap(),
+            err: String::from_utf8(output.stderr).unwrap(),
+        }
+    }
 }
 
 /// A folder that goes away with the test.
@@ -81,12 +91,15 @@ impl Desk {
     /// Runs the desk with arguments that are separated by spaces.
     pub fn run(&self, arguments: &str) -> Outcome {
         let arguments: Vec<&str> = arguments.split_whitespace().collect();
-        let output = self.command(&arguments).output().unwrap();
-        Outcome {
-            status: output.status.code().expect("the desk ended by itself"),
-            out: String::from_utf8(output.stdout).unwrap(),
-            err: String::from_utf8(output.stderr).unwrap(),
-        }
+        Outcome::of(self.command(&arguments).output().unwrap())
+    }
+
+    /// The same, with what its input holds.
+    pub fn run_with(&self, arguments: &str, input: &str) -> Outcome {
+        self.file("input.txt", input);
+        let input = fs::File::open(self.folder.join("input.txt")).unwrap();
+        let arguments: Vec<&str> = arguments.split_whitespace().collect();
+        Outcome::of(self.command(&arguments).stdin(input).output().unwrap())
     }
 
     /// The object that arguments with `--json` print where all goes as asked.

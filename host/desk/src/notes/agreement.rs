@@ -1,0 +1,119 @@
+//! A run in stretches sees what a trace sees that looks at every step; and what both count is what is counted here by hand.
+
+use super::watch::{Count, Seen, Watch};
+use crate::drive::{Drive, Limits};
+use crate::environment::{Environment, Output, Services};
+use crate::explain::agreement::{hart, instruction, map, Random};
+use crate::explain::{family, shadow_stack_on};
+use crate::map::PageMap;
+use crate::progress::Progress;
+use crate::state::State;
+use crate::symbols::Symbols;
+use sporhulma::word;
+
+const MEMORIES: usize = 200;
+const HARTS: usize = 30;
+const STEPS: u64 = 60;
+
+fn drive(state: &State, map: &PageMap) -> Drive<'static> {
+    let limits = Limits {
+        steps: Some(STEPS),
+        follow: u64::MAX,
+    };
+    let environment = Environment::new(Services::default(), 3, None, Output::Stderr);
+    let map: &'static PageMap = Box::leak(Box::new(map.clone()));
+    Drive::start(state.clone(), map, limits, environment).unwrap()
+}
+
+/// All that a watch has seen.
+fn told(watch: &Watch) -> ([Seen; 4], [Count; 4]) {
+    let seen = [watch.shadow, watch.pads, watch.map, watch.masking];
+    (seen, watch.idle)
+}
+
+/// Pushes and pop-checks that go through while the shadow stack is not active, by mode.
+fn idle(state: &State, map: &PageMap) -> [Count; 4] {
+    let (mut state, mut idle) = (state.clone(), [Count::default(); 4]);
+    for _ in 0..STEPS {
+        let before = state.clone();
+        let answer = sporhulma::step(&mut state.hart, &mut state.mem, &map.words);
+        let Ok(word) = before.next_word(map) else {
+            continue;
+        };
+        if answer.trapped || shadow_stack_on(&before.hart) {
+            continue;
+        }
+        let count = &mut idle[before.mode() as usize];
+        count.pushes += u64::from(sporhulma::family(word) == family::PUSH);
+        count.checks += u64::from(sporhulma::family(word) == family::POP);
+    }
+    idle
+}
+
+/// Words that go on more often than they trap, so that runs last; stores among them, which change code.
+fn memory(random: &mut Random) -> Vec<u8> {
+    let plain = [
+        0x0000_0013,
+        0x0015_8593,
+        0xce10_4073,
+        0xcdc0_c073,
+        0x00a5_b023,
+        0x0005_b503,
+    ];
+    let mut word = || match random.pick(&[0, 0, 0, 1]) {
+        0 => random.pick(&plain),
+        _ => instruction(random),
+    };
+    (0..2048).flat_map(|_| word().to_le_bytes()).collect()
+}
+
+#[test]
+fn a_run_sees_what_a_trace_sees() {
+    let random = &mut Random(0x0bad_5eed_0bad_5eed);
+    let mut seen = [[0; 3]; 4];
+    let mut counted = 0;
+    let symbols = Symbols::default();
+    let progress = Progress::start(None, &symbols).unwrap();
+    for _ in 0..MEMORIES {
+        let mem = memory(random);
+        for _ in 0..HARTS {
+            let mut hart = hart(random);
+            hart.rest[word::MTVEC] = random.pick(&[0x8000_0000, 0x8000_0100, 0x8000_1000]);
+            hart.rest[word::STVEC] = random.pick(&[0x1000, 0x8000_0040, 0x8000_1000]);
+            let (state, map) = (
+                State {
+                    hart,
+                    mem: mem.clone(),
+                },
+                map(random),
+            );
+            let run = drive(&state, &map).run(&progress).unwrap();
+            let trace = drive(&state, &map)
+                .trace(&progress, &mut |_| Ok(()))
+                .unwrap();
+            assert_eq!(told(&run.watch), told(&trace.watch), "{hart:x?}");
+            assert_eq!(run.after.hart, trace.after.hart);
+            if run.watch.shadow != Seen::Off && run.count == STEPS {
+                assert_eq!(run.watch.idle, idle(&state, &map), "{hart:x?}");
+                counted += run
+                    .watch
+                    .idle
+                    .iter()
+                    .map(|count| count.pushes + count.checks)
+                    .sum::<u64>();
+            }
+            for (row, now) in seen.iter_mut().zip(told(&run.watch).0) {
+                row[now as usize] += 1;
+            }
+        }
+    }
+    assert!(
+        counted > 1000,
+        "pushes and pop-checks that did nothing: {counted}"
+    );
+    // Each of the four was met on, both with an effect and without.
+    assert!(
+        seen.iter().all(|row| row[1] > 20 && row[2] > 20),
+        "{seen:?}"
+    );
+}
