@@ -28,6 +28,7 @@ mod past;
 mod place;
 mod progress;
 mod refusal;
+mod registers;
 mod report;
 mod run;
 mod run_options;

@@ -2,7 +2,6 @@
 
 use crate::bits::LPE;
 use crate::drive::{End, Stop};
-use crate::dump;
 use crate::ends;
 use crate::explain::{cause_name, shadow_stack_on, Rows, Trap};
 use crate::facts::{hex, object, Facts};
@@ -10,12 +9,13 @@ use crate::frames::{Scope, Table};
 use crate::hints;
 use crate::names::{mode_name, SP};
 use crate::notes;
+use crate::registers;
 use crate::setup::Job;
 use crate::symbols::Symbols;
 use crate::text;
 use disasm::register;
 use serde_json::Value;
-use sporhulma::{word, BASE, REST};
+use sporhulma::{word, REST};
 
 /// What is said at the end.
 pub struct Report {
@@ -91,10 +91,7 @@ impl Report {
             .rows
             .iter()
             .map(|(label, text)| Value::from(format!("{label}: {text}")));
-        let dumps = job
-            .dumps
-            .iter()
-            .map(|&(address, length)| dumped(end, address, length));
+        let dumps = job.dumps.iter().flat_map(|dump| dump.json(end, &job.map));
         let mut members = vec![
             ("status", Value::from(self.status)),
             ("stopped", Value::from(ends::name(end.stop))),
@@ -210,13 +207,6 @@ fn trap_json(trap: &Trap) -> Value {
     object(members)
 }
 
-fn dumped(end: &End, address: u64, length: u64) -> Value {
-    let start = (address - BASE) as usize;
-    let bytes = &end.after.mem[start..start + length as usize];
-    let bytes: String = bytes.iter().map(|byte| format!("{byte:02x}")).collect();
-    object([("address", hex(address)), ("bytes", Value::from(bytes))])
-}
-
 /// What the map names, by the hart at the start of the run.
 fn frames(job: &Job) -> Table {
     Table::new(&job.state.hart, job.state.mem.len() as u64, &job.map)
@@ -236,10 +226,10 @@ pub fn tables(end: &End, job: &Job) -> String {
     }
     if job.registers {
         text += "\n";
-        text += &dump::registers(&end.after);
+        text += &registers::table(&end.after);
     }
-    for &(address, length) in &job.dumps {
-        text += &format!("\n{}", dump::memory(&end.after, address, length));
+    for dump in &job.dumps {
+        text += &format!("\n{}", dump.text(end, &job.map, &job.symbols));
     }
     text
 }

@@ -58,7 +58,7 @@ pub struct RunOptions {
     pub trace_to: Option<String>,
     #[arg(long, help = "show all registers and CSRs at the end")]
     pub registers: bool,
-    #[arg(long, value_name = "ADDRESS:LENGTH", value_parser = some_text(), help = "show bytes of memory at the end (physical address); any number of times")]
+    #[arg(long, value_name = "WHERE:LENGTH", value_parser = some_text(), help = "show bytes of memory at the end; WHERE is a physical address (0x80001000), one of the program (v:0x20000) or a symbol (table, table+8); any number of times")]
     pub dump: Vec<String>,
     #[arg(long, value_name = "FILE", value_parser = some_text(), help = "write all of memory there at the end")]
     pub save: Option<String>,

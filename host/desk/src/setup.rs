@@ -1,19 +1,19 @@
 //! From the options of `desk run` to what is run: the state at the start, the map, the limits, the outputs.
 
 use crate::drive::Limits;
+use crate::dump::Dump;
 use crate::environment::Services;
 use crate::failure::Failure;
 use crate::image;
 use crate::layout::Layout;
 use crate::load::{self, load, Image, Loaded};
 use crate::map::PageMap;
-use crate::number::{number, size};
 use crate::output::{self, Output};
 use crate::run_options::{Expect, RunOptions, Wanted};
 use crate::start::{self, hart, pc};
 use crate::state::State;
 use crate::symbols::Symbols;
-use sporhulma::{word, Hart, BASE};
+use sporhulma::{word, Hart};
 
 /// All that `desk run` was asked to do.
 pub struct Job {
@@ -35,7 +35,7 @@ pub struct Job {
     pub trace: bool,
     pub trace_to: Option<Output>,
     pub registers: bool,
-    pub dumps: Vec<(u64, u64)>,
+    pub dumps: Vec<Dump>,
     pub save: Option<Output>,
     /// Whether the frames that the map names are to be told.
     pub frames: bool,
@@ -66,11 +66,11 @@ impl Job {
             None => symbols,
         };
         Ok(Job {
+            dumps: dumps(options, &symbols)?,
             symbols,
             user: options.user,
             map,
             layout,
-            dumps: dumps(options)?,
             expect: options.expect.clone(),
             services,
             exit_status: options.exit_status,
@@ -132,31 +132,10 @@ fn output(
 }
 
 /// The stretches of memory that are shown at the end.
-fn dumps(options: &RunOptions) -> Result<Vec<(u64, u64)>, Failure> {
+fn dumps(options: &RunOptions, symbols: &Symbols) -> Result<Vec<Dump>, Failure> {
     let wrong = |wrong: String| Failure::at("--dump", wrong);
     let dumps = options.dump.iter();
     dumps
-        .map(|value| dump(value, options.memory).map_err(wrong))
+        .map(|asked| Dump::parse(asked, options.memory, symbols).map_err(wrong))
         .collect()
-}
-
-/// A stretch of memory: ADDRESS:LENGTH, all of it in memory.
-fn dump(value: &str, memory: u64) -> Result<(u64, u64), String> {
-    let Some((address, length)) = value.split_once(':') else {
-        return Err(format!(
-            "'{value}' has no ':'; write for instance 0x80001000:64"
-        ));
-    };
-    let (address, length) = (number(address)?, size(length)?);
-    let end = BASE + memory;
-    if length == 0 {
-        Err(format!("'{value}' has length 0; try 1 or more"))
-    } else if address < BASE || address >= end || length > end - address {
-        let last = end - 1;
-        Err(format!(
-            "{value} is not all in memory, which is {BASE:#x} to {last:#x}"
-        ))
-    } else {
-        Ok((address, length))
-    }
 }

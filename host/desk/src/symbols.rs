@@ -25,6 +25,23 @@ pub enum Space {
     Physical,
 }
 
+/// Where a symbol lies.
+#[derive(Clone, Copy, Debug, PartialEq)]
+pub struct Place {
+    /// As the program sees it.
+    pub seen: u64,
+    pub physical: u64,
+}
+
+impl Place {
+    pub fn address(self, space: Space) -> u64 {
+        match space {
+            Space::Virtual => self.seen,
+            Space::Physical => self.physical,
+        }
+    }
+}
+
 /// A symbol, and how far behind its address another lies.
 #[derive(Clone, Debug, PartialEq)]
 pub struct Name<'a> {
@@ -166,9 +183,18 @@ impl Symbols {
         name.map_or(Value::Null, |name| Value::from(name.to_string()))
     }
 
+    /// Where a symbol lies.
+    pub fn place(&self, name: &str) -> Result<Place, String> {
+        let seen = self.address(name)?;
+        let segment = self.segment(seen);
+        Ok(Place {
+            seen,
+            physical: segment.map_or(seen, |segment| seen - segment.address + segment.physical),
+        })
+    }
+
     /// The virtual address of a symbol.
-    #[cfg_attr(not(test), allow(dead_code))] // for options that take a symbol
-    pub fn address(&self, name: &str) -> Result<u64, String> {
+    fn address(&self, name: &str) -> Result<u64, String> {
         let all = || self.sized.iter().chain(&self.labels);
         let mut found: Vec<u64> = all()
             .filter(|symbol| symbol.name == name)
