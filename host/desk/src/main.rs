@@ -35,10 +35,12 @@ mod run_options;
 mod setup;
 mod start;
 mod state;
+mod steps;
 mod symbols;
 mod text;
 mod trace;
 mod usage;
+mod window;
 mod words;
 
 use clap::error::ErrorKind;

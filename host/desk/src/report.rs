@@ -50,10 +50,11 @@ impl Report {
         let hints = hints::hints(end, trap.as_ref(), &job.state.hart, map);
         rows.extend(hints.into_iter().map(|hint| ("hint", hint)));
         rows.extend(end.environment.row().map(|calls| ("calls", calls)));
-        let notes = match end.count {
+        let mut notes = match end.count {
             0 => Vec::new(),
             _ => notes::notes(&end.watch),
         };
+        notes.extend(job.window.missed(end));
         rows.extend(notes.iter().map(|note| ("note", note.clone())));
         let good = ends::as_asked(end, trap.as_ref(), expect);
         if let Some(expect) = expect {

@@ -1,6 +1,6 @@
 //! `desk run`: runs an image and says where and why it stopped.
 
-use crate::drive::{Drive, End, Shown};
+use crate::drive::{Drive, End};
 use crate::environment::{Environment, Output as Console};
 use crate::facts;
 use crate::failure::Failure;
@@ -9,7 +9,9 @@ use crate::progress::Progress;
 use crate::report::{tables, Report};
 use crate::run_options::RunOptions;
 use crate::setup::Job;
+use crate::steps::Shown;
 use crate::trace::{served, Trace};
+use crate::window::Window;
 use std::io::{stderr, Write};
 
 /// Runs what the options ask for; the answer is the exit status.
@@ -50,18 +52,16 @@ fn drive(job: &Job, trace_to: Option<Output>, out: &mut dyn Write) -> Result<End
         };
         Ok(to.write_all(lines.as_bytes())?)
     };
-    match (job.trace, trace_to) {
-        (false, _) => drive.run(&progress),
-        (true, None) => drive.trace(&progress, &mut |shown| show(shown, out)),
-        (true, Some(output)) => {
-            output.replace(|file| drive.trace(&progress, &mut |shown| show(shown, file)))
-        }
+    let go = |to: &mut dyn Write| drive.run(&job.window, &progress, &mut |shown| show(shown, to));
+    match trace_to {
+        None => go(out),
+        Some(output) => output.replace(go),
     }
 }
 
 /// What serves the program's calls. What it writes goes to the output, where that is not taken by a trace or an object.
 fn environment(job: &Job, traced_apart: bool) -> Environment {
-    let taken = job.json || (job.trace && !traced_apart);
+    let taken = job.json || (job.window != Window::None && !traced_apart);
     let console = if taken {
         Console::Stderr
     } else {

@@ -13,6 +13,7 @@ use crate::run_options::{Expect, RunOptions, Wanted};
 use crate::start::{self, hart, pc};
 use crate::state::State;
 use crate::symbols::Symbols;
+use crate::window::{Start, Window};
 use sporhulma::{word, Hart};
 
 /// All that `desk run` was asked to do.
@@ -32,7 +33,8 @@ pub struct Job {
     pub exit_status: bool,
     /// Whether a note is an end that was not asked for.
     pub strict: bool,
-    pub trace: bool,
+    /// Which steps are traced.
+    pub window: Window,
     pub trace_to: Option<Output>,
     pub registers: bool,
     pub dumps: Vec<Dump>,
@@ -67,6 +69,7 @@ impl Job {
         };
         Ok(Job {
             dumps: dumps(options, &symbols)?,
+            window: window(options, &symbols)?,
             symbols,
             user: options.user,
             map,
@@ -75,7 +78,6 @@ impl Job {
             services,
             exit_status: options.exit_status,
             strict: options.strict,
-            trace: options.trace || options.trace_to.is_some(),
             trace_to: output(options, "--trace-to", &options.trace_to)?,
             registers: options.registers,
             save: output(options, "--save", &options.save)?,
@@ -129,6 +131,20 @@ fn output(
         ("the trace", trace.filter(|_| option != "--trace-to")),
     ];
     output::asked(option, path.as_deref(), &others)
+}
+
+/// Which steps are traced.
+fn window(options: &RunOptions, symbols: &Symbols) -> Result<Window, Failure> {
+    let wrong = |wrong: String| Failure::at("--trace-from", wrong);
+    match (options.traces(), options.trace_last, &options.trace_from) {
+        (None, ..) => Ok(Window::None),
+        (_, Some(steps), _) => Ok(Window::Last(steps)),
+        (.., from) => {
+            let from = from.as_deref().unwrap_or("1");
+            let start = Start::parse(from, symbols).map_err(wrong)?;
+            Ok(Window::From(start, options.trace_steps.unwrap_or(u64::MAX)))
+        }
+    }
 }
 
 /// The stretches of memory that are shown at the end.
