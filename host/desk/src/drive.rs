@@ -6,11 +6,12 @@ use crate::failure::Failure;
 use crate::map::PageMap;
 use crate::notes::Watch;
 use crate::past::Past;
+use crate::profile::{Counts, Made, Profile};
 use crate::progress::Progress;
 use crate::refusal;
 use crate::state::State;
 use crate::steps::{Before, Show, Shown};
-use crate::symbols::Place;
+use crate::symbols::{Place, Symbols};
 use crate::window::{Start, Window};
 use sporhulma::{Answer, Hart, MOST_STEPS};
 
@@ -52,6 +53,8 @@ pub struct End {
     pub shown: u64,
     /// What was seen of the protections that are on.
     pub watch: Watch,
+    /// Where the steps were made, if that was asked for.
+    pub profile: Option<Counts>,
     pub environment: Environment,
 }
 
@@ -64,6 +67,7 @@ pub struct Drive<'a> {
     followed: u64,
     shown: u64,
     watch: Watch,
+    profile: Option<Profile<'a>>,
     environment: Environment,
 }
 
@@ -103,10 +107,17 @@ impl<'a> Drive<'a> {
             count: 0,
             followed: 0,
             shown: 0,
+            profile: None,
             environment,
         };
         drive.call(0)?;
         Ok(drive)
+    }
+
+    /// Counts where each step is made.
+    pub fn profiled(mut self, symbols: &'a Symbols) -> Drive<'a> {
+        self.profile = Some(Profile::new(&self.state, symbols));
+        self
     }
 
     /// Runs to the end: step by step where the window asks for it, and else in as few calls as possible.
@@ -149,8 +160,9 @@ impl<'a> Drive<'a> {
     ) -> Result<Option<Ended>, Failure> {
         let (mut told, mut long) = (self.count, false);
         loop {
-            // Behind a long call a single step shows whether the hart still moves.
-            let most = if long { 1 } else { MOST_STEPS };
+            // A profile sees every step; and behind a long call a single step shows whether the hart still moves.
+            let single = long || self.profile.is_some();
+            let most = if single { 1 } else { MOST_STEPS };
             let most = most.min(self.left()).min(self.up_to(until));
             if most == 0 {
                 return Ok(None);
@@ -256,6 +268,21 @@ impl<'a> Drive<'a> {
 
     /// What comes after a call that began with `hart`.
     fn next(&mut self, hart: &Hart, answer: Answer) -> Result<Next, Failure> {
+        let next = self.decide(hart, answer)?;
+        if let Some(profile) = &mut self.profile {
+            let made = Made {
+                before: hart,
+                after: &self.state,
+                answer,
+                served: matches!(next, Next::Served(_)),
+                last: matches!(next, Next::End(_)),
+            };
+            profile.saw(&made, self.map);
+        }
+        Ok(next)
+    }
+
+    fn decide(&mut self, hart: &Hart, answer: Answer) -> Result<Next, Failure> {
         // A step is a function of hart, memory and map, and neither a trap nor a step that leaves pc writes memory.
         let same = answer.count == 1 && *hart == self.state.hart;
         if answer.trapped {
@@ -291,6 +318,7 @@ impl<'a> Drive<'a> {
             after: self.state,
             shown: self.shown,
             watch: self.watch,
+            profile: self.profile.map(Profile::done),
             environment: self.environment,
         }
     }

@@ -26,6 +26,7 @@ mod number;
 mod output;
 mod past;
 mod place;
+mod profile;
 mod progress;
 mod refusal;
 mod registers;

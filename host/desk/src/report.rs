@@ -119,6 +119,7 @@ impl Report {
         members.push(("notes", Value::from(self.notes.clone())));
         members.extend(hart_json(end, &job.symbols));
         members.push(("dump", Value::Array(dumps.collect())));
+        members.extend(end.profile.iter().map(|counts| ("profile", counts.json())));
         if let Some(layout) = &job.layout {
             let lines = layout.text.lines().map(Value::from);
             members.push(("map", lines.collect()));
@@ -224,6 +225,9 @@ pub fn tables(end: &End, job: &Job) -> String {
     if job.frames {
         let scope = Scope::of(&job.state.hart, end.followed);
         text += &format!("\n{}", frames(job).text(&scope));
+    }
+    if let Some(counts) = &end.profile {
+        text += &format!("\n{}", counts.text());
     }
     if job.registers {
         text += "\n";

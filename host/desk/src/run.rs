@@ -5,6 +5,7 @@ use crate::environment::{Environment, Output as Console};
 use crate::facts;
 use crate::failure::Failure;
 use crate::output::Output;
+use crate::profile;
 use crate::progress::Progress;
 use crate::report::{tables, Report};
 use crate::run_options::RunOptions;
@@ -18,10 +19,15 @@ use std::io::{stderr, Write};
 pub fn run(options: &RunOptions, out: &mut dyn Write) -> Result<u8, Failure> {
     let mut job = Job::new(options)?;
     let (trace_to, save) = (job.trace_to.take(), job.save.take());
+    let picture = job.profile_svg.take();
     let end = drive(&job, trace_to, out)?;
     let report = Report::new(&end, &job);
     if let Some(output) = save {
         output.replace(|file| Ok(file.write_all(&end.after.mem)?))?;
+    }
+    if let (Some(output), Some(counts)) = (picture, &end.profile) {
+        let svg = profile::draw(counts, &job.image.path);
+        output.replace(|file| Ok(file.write_all(svg.as_bytes())?))?;
     }
     let text = match job.json {
         true => facts::text(&report.json(&end, &job)),
@@ -43,6 +49,10 @@ pub fn run(options: &RunOptions, out: &mut dyn Write) -> Result<u8, Failure> {
 fn drive(job: &Job, trace_to: Option<Output>, out: &mut dyn Write) -> Result<End, Failure> {
     let environment = environment(job, trace_to.is_some());
     let drive = Drive::start(job.state.clone(), &job.map, job.limits, environment)?;
+    let drive = match job.profile {
+        true => drive.profiled(&job.symbols),
+        false => drive,
+    };
     let progress = Progress::start(job.limits.steps, &job.symbols)?;
     let mut trace = Trace::new(&job.map, &job.symbols);
     let mut show = |shown: Shown, to: &mut dyn Write| -> Result<(), Failure> {

@@ -63,6 +63,10 @@ pub struct RunOptions {
     pub trace_last: Option<u64>,
     #[arg(long, value_name = "FILE", value_parser = some_text(), help = "write the trace there and not to the output")]
     pub trace_to: Option<String>,
+    #[arg(long, help = "say in which functions the steps were made")]
+    pub profile: bool,
+    #[arg(long, value_name = "FILE", value_parser = some_text(), help = "draw the profile there, as a flame graph (SVG)")]
+    pub profile_svg: Option<String>,
     #[arg(long, help = "show all registers and CSRs at the end")]
     pub registers: bool,
     #[arg(long, value_name = "WHERE:LENGTH", value_parser = some_text(), help = "show bytes of memory at the end; WHERE is a physical address (0x80001000), one of the program (v:0x20000) or a symbol (table, table+8); any number of times")]

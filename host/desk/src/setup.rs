@@ -36,6 +36,9 @@ pub struct Job {
     /// Which steps are traced.
     pub window: Window,
     pub trace_to: Option<Output>,
+    /// Whether the steps are counted by function.
+    pub profile: bool,
+    pub profile_svg: Option<Output>,
     pub registers: bool,
     pub dumps: Vec<Dump>,
     pub save: Option<Output>,
@@ -79,6 +82,8 @@ impl Job {
             exit_status: options.exit_status,
             strict: options.strict,
             trace_to: output(options, "--trace-to", &options.trace_to)?,
+            profile: options.profile || options.profile_svg.is_some(),
+            profile_svg: output(options, "--profile-svg", &options.profile_svg)?,
             registers: options.registers,
             save: output(options, "--save", &options.save)?,
             frames: options.frames,
@@ -123,12 +128,16 @@ fn output(
     option: &str,
     path: &Option<String>,
 ) -> Result<Option<Output>, Failure> {
-    let trace = options.trace_to.as_deref();
+    let (trace, save) = (options.trace_to.as_deref(), options.save.as_deref());
     let others = [
         ("the image", Some(options.image.as_str())),
         ("the page map", options.map_file()),
         ("the file of symbols", options.symbols.as_deref()),
         ("the trace", trace.filter(|_| option != "--trace-to")),
+        (
+            "the saved memory",
+            save.filter(|_| option == "--profile-svg"),
+        ),
     ];
     output::asked(option, path.as_deref(), &others)
 }

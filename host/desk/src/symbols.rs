@@ -17,7 +17,7 @@ use std::path::{Path, PathBuf};
 const CALL: u64 = 4;
 
 /// Which addresses are meant.
-#[derive(Clone, Copy, Debug, PartialEq)]
+#[derive(Clone, Copy, Debug, PartialEq, Eq, Hash)]
 pub enum Space {
     /// Those of the program, translated by the map.
     Virtual,
