@@ -169,12 +169,8 @@ impl<'a> Drive<'a> {
             }
             past.renew(&self.state);
             let hart = self.state.hart;
-            let ahead = self.watch.ahead(&self.state, self.map);
-            let answer = self.call(ahead.as_ref().map_or(most, |ahead| ahead.steps.min(most)))?;
+            let answer = self.watched(most)?;
             long = answer.count == MOST_STEPS;
-            if let Some(ahead) = ahead {
-                self.watch.saw(&ahead, answer);
-            }
             past.stepped(answer.count);
             match self.next(&hart, answer)? {
                 Next::On => (),
@@ -205,11 +201,7 @@ impl<'a> Drive<'a> {
         let first = self.count;
         while self.left() > 0 && self.count - first < most {
             before.begins(&self.state.hart);
-            let ahead = self.watch.ahead(&self.state, self.map);
-            let answer = self.call(1)?;
-            if let Some(ahead) = ahead {
-                self.watch.saw(&ahead, answer);
-            }
+            let answer = self.watched(1)?;
             before.show(self.count, &self.state, answer, self.map, show)?;
             self.shown += 1;
             match self.next(&before.state.hart, answer)? {
@@ -250,6 +242,16 @@ impl<'a> Drive<'a> {
 
     fn stops_at_trap(&self) -> bool {
         self.followed >= self.limits.follow
+    }
+
+    /// At most so many steps in one call, or fewer where the watch looks at what comes.
+    fn watched(&mut self, most: u64) -> Result<Answer, Failure> {
+        let Some(ahead) = self.watch.ahead(&self.state, self.map) else {
+            return self.call(most);
+        };
+        let answer = self.call(ahead.steps.min(most))?;
+        self.watch.saw(&ahead, answer);
+        Ok(answer)
     }
 
     /// One call of the proved run.

@@ -1,10 +1,12 @@
 //! Hints about slips that are easily made, beside what explains the end of a run.
 
 use crate::drive::{End, Stop};
+use crate::environment;
 use crate::explain::{access, Trap};
 use crate::map::PageMap;
 use crate::names::SP;
 use crate::place::Kind;
+use crate::setup::Job;
 use crate::state::State;
 use disasm::Word;
 use sporhulma::{word, Hart, BASE};
@@ -12,8 +14,9 @@ use sporhulma::{word, Hart, BASE};
 /// How far below 0 a stack that began at 0 is taken to reach.
 const STACK: i64 = 1 << 20;
 
-/// What may be wrong in a run that began with `start`.
-pub fn hints(end: &End, trap: Option<&Trap>, start: &Hart, map: &PageMap) -> Vec<String> {
+/// What may be wrong in a run that ended so.
+pub fn hints(end: &End, trap: Option<&Trap>, job: &Job) -> Vec<String> {
+    let (start, map) = (&job.state.hart, &job.map);
     let Some(before) = &end.before else {
         return Vec::new();
     };
@@ -22,7 +25,9 @@ pub fn hints(end: &End, trap: Option<&Trap>, start: &Hart, map: &PageMap) -> Vec
     let still =
         stays.then(|| "the last step changed nothing: the program waits here for ever".into());
     let trap = trap.and_then(|trap| {
-        no_memory(before, trap, end.count).or_else(|| no_stack(before, trap, start, map))
+        no_memory(before, trap, end.count)
+            .or_else(|| no_stack(before, trap, start, map))
+            .or_else(|| environment::unserved(before, map, trap.cause, job.services))
     });
     still.into_iter().chain(trap).collect()
 }

@@ -12,8 +12,11 @@ use crate::steps::{Before, Show, Shown};
 use sporhulma::{Hart, MOST_STEPS};
 use std::collections::VecDeque;
 
-/// Steps, and calls of the environment, after which a new copy is due.
+/// Calls of the environment after which a new copy is due, as it is after a run's most steps, or as many written bytes as memory has.
 const MOST_CALLS: usize = 1000;
+
+/// The most copies beside the last one, each with what the environment wrote since: some 128M where memory is the largest.
+const MOST_OLD: usize = 63;
 
 /// What the environment left after so many steps.
 struct Call {
@@ -28,8 +31,9 @@ struct Stretch {
     /// Steps since the copy, or since the last call.
     steps: u64,
     calls: Vec<Call>,
-    /// All steps since the copy.
+    /// All steps since the copy, and all bytes that the environment wrote.
     since: u64,
+    written: usize,
 }
 
 pub struct Past {
@@ -47,6 +51,7 @@ impl Stretch {
             steps: 0,
             calls: Vec::new(),
             since: 0,
+            written: 0,
         }
     }
 }
@@ -63,7 +68,8 @@ impl Past {
 
     /// Takes a new copy if one is due.
     pub fn renew(&mut self, state: &State) {
-        if self.now.since < MOST_STEPS && self.now.calls.len() < MOST_CALLS {
+        let few = self.now.calls.len() < MOST_CALLS && self.now.written < state.mem.len();
+        if self.now.since < MOST_STEPS && few {
             return;
         }
         let next = Stretch::new(state.clone());
@@ -71,7 +77,7 @@ impl Past {
         let mut kept: u64 = self.old.iter().map(|stretch| stretch.since).sum();
         while let Some(first) = self.old.front() {
             kept -= first.since;
-            if kept < self.keep {
+            if kept < self.keep && self.old.len() <= MOST_OLD {
                 break;
             }
             self.old.pop_front();
@@ -86,6 +92,7 @@ impl Past {
 
     /// The environment has served a call: it left this hart, and wrote this.
     pub fn served(&mut self, hart: &Hart, writes: Vec<Write>) {
+        self.now.written += writes.iter().map(|write| write.1.len()).sum::<usize>();
         self.now.calls.push(Call {
             steps: self.now.steps,
             hart: *hart,

@@ -11,6 +11,7 @@ use crate::names::{mode_name, SP};
 use crate::notes;
 use crate::registers;
 use crate::setup::Job;
+use crate::state::State;
 use crate::symbols::Symbols;
 use crate::text;
 use disasm::register;
@@ -29,42 +30,26 @@ pub struct Report {
 
 impl Report {
     pub fn new(end: &End, job: &Job) -> Report {
-        let (map, expect) = (&job.map, job.expect.as_ref());
         let trap = match (end.stop, &end.before, end.cause) {
             (Stop::Trap | Stop::Stuck, Some(before), Some(cause)) => {
                 let hart = &end.after.hart;
-                Some(Trap::explain(before, map, &job.symbols, hart, cause))
+                Some(Trap::explain(before, &job.map, &job.symbols, hart, cause))
             }
             _ => None,
         };
-        let mut rows = trap
-            .as_ref()
-            .map_or_else(Vec::new, |trap| trap.rows.clone());
-        rows.push(match (end.stop, &end.before) {
-            (Stop::Exit(_), Some(before)) => ("at", before.next_text(map, &job.symbols)),
-            (Stop::Trap | Stop::Stuck, _) => ("handler", end.after.next_text(map, &job.symbols)),
-            _ => ("next", end.after.next_text(map, &job.symbols)),
-        });
-        rows.extend(start(job).map(|start| ("start", start)));
-        rows.extend(user(job));
-        let hints = hints::hints(end, trap.as_ref(), &job.state.hart, map);
-        rows.extend(hints.into_iter().map(|hint| ("hint", hint)));
-        rows.extend(end.environment.row().map(|calls| ("calls", calls)));
+        // Where no step was made, nothing could have an effect.
         let mut notes = match end.count {
             0 => Vec::new(),
             _ => notes::notes(&end.watch),
         };
         notes.extend(job.window.missed(end));
+        let good = ends::as_asked(end, trap.as_ref(), job.expect.as_ref());
+        let mut rows = rows(end, job, trap.as_ref());
         rows.extend(notes.iter().map(|note| ("note", note.clone())));
-        let good = ends::as_asked(end, trap.as_ref(), expect);
-        if let Some(expect) = expect {
-            let verdict = if good {
-                "as --expect asks"
-            } else {
-                "not as --expect asks"
-            };
-            rows.push(("expect", format!("{verdict}: {}", expect.text)));
-        }
+        rows.extend(job.expect.iter().map(|expect| {
+            let not = if good { "" } else { "not " };
+            ("expect", format!("{not}as --expect asks: {}", expect.text))
+        }));
         let status = match end.stop {
             _ if job.strict && !notes.is_empty() => 3,
             // As a system hands it on: the low eight bits.
@@ -87,36 +72,14 @@ impl Report {
 
     /// The object that docs/DESK.md describes.
     pub fn json(&self, end: &End, job: &Job) -> Value {
-        let headline = Value::from(self.headline.as_str());
-        let rows = self
-            .rows
-            .iter()
-            .map(|(label, text)| Value::from(format!("{label}: {text}")));
         let dumps = job.dumps.iter().flat_map(|dump| dump.json(end, &job.map));
-        let mut members = vec![
-            ("status", Value::from(self.status)),
-            ("stopped", Value::from(ends::name(end.stop))),
-            ("count", Value::from(end.count)),
-            ("followed", Value::from(end.followed)),
-            ("trap", self.trap.as_ref().map_or(Value::Null, trap_json)),
-            (
-                "words",
-                Value::Array([headline].into_iter().chain(rows).collect()),
-            ),
-        ];
-        let exit = match end.stop {
-            Stop::Exit(value) => Value::from(value),
-            _ => Value::Null,
-        };
+        let mut members = self.ended(end);
         let start = job.image.start.map_or(Value::Null, hex);
         let image = [
             ("format", Value::from(job.image.format_name())),
             ("start", start),
         ];
         members.push(("image", object(image)));
-        members.push(("exit", exit));
-        members.push(("calls", end.environment.json()));
-        members.push(("notes", Value::from(self.notes.clone())));
         members.extend(hart_json(end, &job.symbols));
         members.push(("dump", Value::Array(dumps.collect())));
         members.extend(end.profile.iter().map(|counts| ("profile", counts.json())));
@@ -130,6 +93,45 @@ impl Report {
         }
         object(members)
     }
+
+    /// How it ended, and what is said about it.
+    fn ended(&self, end: &End) -> Facts {
+        let rows = self.rows.iter();
+        let rows = rows.map(|(label, text)| format!("{label}: {text}"));
+        let words: Vec<String> = [self.headline.clone()].into_iter().chain(rows).collect();
+        let exit = match end.stop {
+            Stop::Exit(value) => Value::from(value),
+            _ => Value::Null,
+        };
+        vec![
+            ("status", Value::from(self.status)),
+            ("stopped", Value::from(ends::name(end.stop))),
+            ("count", Value::from(end.count)),
+            ("followed", Value::from(end.followed)),
+            ("exit", exit),
+            ("trap", self.trap.as_ref().map_or(Value::Null, trap_json)),
+            ("words", Value::from(words)),
+            ("notes", Value::from(self.notes.clone())),
+            ("calls", end.environment.json()),
+        ]
+    }
+}
+
+/// What explains the end, where the run began, and what served it.
+fn rows(end: &End, job: &Job, trap: Option<&Trap>) -> Rows {
+    let next = |state: &State| state.next_text(&job.map, &job.symbols);
+    let mut rows = trap.map_or_else(Vec::new, |trap| trap.rows.clone());
+    rows.push(match (end.stop, &end.before) {
+        (Stop::Exit(_), Some(before)) => ("at", next(before)),
+        (Stop::Trap | Stop::Stuck, _) => ("handler", next(&end.after)),
+        _ => ("next", next(&end.after)),
+    });
+    rows.extend(start(job).map(|start| ("start", start)));
+    rows.extend(user(job));
+    let hints = hints::hints(end, trap, job);
+    rows.extend(hints.into_iter().map(|hint| ("hint", hint)));
+    rows.extend(end.environment.row().map(|calls| ("calls", calls)));
+    rows
 }
 
 fn hart_json(end: &End, symbols: &Symbols) -> Facts {

@@ -61,7 +61,6 @@ impl Job {
         let mut hart = hart(user.map_or_else(Hart::fresh, start::user), &options.start)?;
         hart.rest[word::PC] = pc(&options.start, &image)?.unwrap_or(hart.rest[word::PC]);
         let state = State { hart, mem };
-        let services = services(options)?;
         let limits = Limits {
             steps: options.steps,
             follow: options.follow,
@@ -78,7 +77,7 @@ impl Job {
             map,
             layout,
             expect: options.expect.clone(),
-            services,
+            services: services(options)?,
             exit_status: options.exit_status,
             strict: options.strict,
             trace_to: output(options, "--trace-to", &options.trace_to)?,

@@ -38,16 +38,21 @@ impl Start {
 }
 
 impl Window {
-    /// What is to be said where nothing was shown of a window that was asked for.
+    /// What is to be said where less was shown than was asked for.
     pub fn missed(&self, end: &End) -> Option<String> {
-        let Window::From(start, _) = self else {
-            return None;
-        };
-        let whole = *start == Start::Step(1);
-        (end.shown == 0 && !whole).then(|| match start {
-            Start::Step(step) => format!("the trace is empty: the run ended before step {step}"),
-            Start::Symbol(name, _) => format!("the trace is empty: the hart never came to {name}"),
-        })
+        let shown = end.shown;
+        match self {
+            Window::Last(steps) if shown < end.count.min(*steps) => Some(format!(
+                "the trace has the last {shown} steps and not {steps}: the environment wrote too much in them to keep more"
+            )),
+            Window::From(Start::Step(step), _) if shown == 0 && *step > 1 => {
+                Some(format!("the trace is empty: the run ended before step {step}"))
+            }
+            Window::From(Start::Symbol(name, _), _) if shown == 0 => {
+                Some(format!("the trace is empty: the hart never came to {name}"))
+            }
+            _ => None,
+        }
     }
 }
 

@@ -4,7 +4,7 @@ mod common;
 
 use common::*;
 use std::io::Read;
-use std::process::{Command, Stdio};
+use std::process::{Child, Command, Stdio};
 use std::thread::sleep;
 use std::time::Duration;
 
@@ -76,7 +76,15 @@ fn a_hart_that_stands_still_is_an_end() {
     );
 }
 
-/// A loop that never ends, until Ctrl-C ends it with a report; a second one would end the desk at once.
+/// Presses Ctrl-C once the program has had time to begin.
+fn press(child: &Child) {
+    sleep(Duration::from_millis(400));
+    let kill = format!("kill -INT {}", child.id());
+    let pressed = Command::new("sh").args(["-c", &kill]).status();
+    assert!(pressed.unwrap().success());
+}
+
+/// A loop that never ends, until Ctrl-C ends it with a report.
 #[test]
 fn ctrl_c_ends_a_run_with_its_report() {
     let desk = Desk::new("ctrl-c");
@@ -93,11 +101,7 @@ fn ctrl_c_ends_a_run_with_its_report() {
             .stdout(Stdio::piped())
             .spawn()
             .unwrap();
-        sleep(Duration::from_millis(400));
-        let pressed = Command::new("kill")
-            .args(["-INT", &child.id().to_string()])
-            .status();
-        assert!(pressed.unwrap().success());
+        press(&child);
         let mut out = String::new();
         child
             .stdout
@@ -111,4 +115,22 @@ fn ctrl_c_ends_a_run_with_its_report() {
             _ => assert!(out.starts_with("Ended by Ctrl-C after "), "{out}"),
         }
     }
+}
+
+/// A program that waits for input: the second Ctrl-C ends the desk at once.
+#[test]
+fn a_second_ctrl_c_ends_the_desk() {
+    let desk = Desk::new("ctrl-c-twice");
+    desk.image("p.bin", &[ECALL, EBREAK]);
+    let arguments = "run p.bin --memory 4K --syscalls --x a7=63 --x a1=0x80000100 --x a2=1";
+    let arguments: Vec<&str> = arguments.split_whitespace().collect();
+    let mut child = desk
+        .command(&arguments)
+        .stdin(Stdio::piped())
+        .spawn()
+        .unwrap();
+    press(&child);
+    assert_eq!(child.try_wait().unwrap(), None, "it waits on");
+    press(&child);
+    assert_eq!(child.wait().unwrap().code(), Some(130));
 }

@@ -309,6 +309,38 @@ fn a_delegated_call_is_served_too() {
     );
 }
 
+/// Who called is told by what the trap to S saved, whatever an earlier trap to M has left.
+#[test]
+fn a_delegated_call_has_its_own_mode_and_address() {
+    let desk = Desk::new("delegated-mode");
+    program(&desk, &[ECALL, EBREAK], b"text");
+    let delegated = "--csr medeleg=0x108 --csr mstatus=0x1800 --csr mepc=0x80000100";
+    let options = "--syscalls --x a7=64 --x a0=1 --x a1=0x20000 --x a2=4 --json";
+    let outcome = desk.run(&format!("{RUN} {delegated} {options}"));
+    let object = Reader::whole(&outcome.out);
+    assert_eq!((outcome.err.as_str(), a0(&object)), ("text", 4));
+    program(&desk, &[SLLI, EBREAK, SRAI, ECALL], b"text");
+    let options = "--semihosting --x a0=4 --x a1=0x20000 --expect ecall --json";
+    let outcome = desk.run(&format!("{RUN} {delegated} {options}"));
+    assert_eq!((outcome.err.as_str(), outcome.status), ("text", 0));
+}
+
+/// A buffer may end at the last address, and does not go on at the first.
+#[test]
+fn a_buffer_at_the_end_of_all_addresses() {
+    let desk = Desk::new("last-address");
+    program(&desk, &[ECALL, EBREAK], &[b'x'; 4096]);
+    let ends = "0xfffffffffffff000 -> 0x80001000 rw u\n0x0 -> 0x80001000 rw u\n";
+    desk.file("apart.map", format!("{APART}{ends}"));
+    let write = |length: u64| {
+        let registers = format!("--x a7=64 --x a0=1 --x a1=-2 --x a2={length}");
+        let outcome = desk.run(&format!("{RUN} --syscalls {registers} --json"));
+        (outcome.err.clone(), a0(&Reader::whole(&outcome.out)))
+    };
+    assert_eq!(write(2), ("xx".to_string(), 2));
+    assert_eq!(write(3), (String::new(), EFAULT));
+}
+
 /// ECALLs of the mode in which the run began are the environment's, others are the program's own.
 #[test]
 fn which_ecalls_are_served() {
@@ -700,4 +732,74 @@ fn without_an_end_there_is_no_break() {
     assert_eq!(a0(&object), ENOSYS);
     let unserved = &object.at("calls").at("unserved").list()[0];
     assert_eq!(unserved.at("call").text(), "system call 214 brk");
+}
+
+/// A program that makes calls without the option that serves them is told which.
+#[test]
+fn a_call_that_nothing_serves_has_a_hint() {
+    let desk = Desk::new("unserved-hint");
+    let hint = |words: &[u32], options: &str| {
+        desk.image("p.bin", words);
+        let said = desk.run(&format!("run p.bin --memory 4K {options}")).out;
+        let row = said
+            .lines()
+            .find_map(|line| line.strip_prefix("  hint      "));
+        row.unwrap_or_default().to_string()
+    };
+    let semihosting = "this is a semihosting call; --semihosting serves it";
+    assert_eq!(hint(&[SLLI, EBREAK, SRAI], "--syscalls"), semihosting);
+    assert_eq!(hint(&[NOP, EBREAK, SRAI], ""), "");
+    let exit = "a7 is 93, the system call exit; --syscalls serves it";
+    assert_eq!(hint(&[ECALL], "--x a7=93 --semihosting"), exit);
+    assert_eq!(hint(&[ECALL], "--x a7=62"), "");
+    let other =
+        "--syscalls serves ECALLs from the mode in which the run began, and this is another";
+    assert_eq!(
+        hint(
+            &[MRET, NOP, ECALL],
+            "--syscalls --csr mepc=0x80000008 --x a7=93"
+        ),
+        other
+    );
+}
+
+/// A heap that goes up and down by many pages, over and over: more bytes than the desk keeps in mind before it takes a new copy.
+#[test]
+fn a_heap_that_goes_up_and_down() {
+    let desk = Desk::new("up-and-down");
+    let words = [
+        0x0004_8513, // mv a0,s1
+        ECALL,
+        0x0009_0513, // mv a0,s2
+        ECALL,
+        0xfff4_0413, // addi s0,s0,-1
+        0xfe04_16e3, // bnez s0,.-20
+        0x0009_3503, // ld a0,0(s2)
+        0x0005_3503, // ld a0,0(a0)
+    ];
+    let mut program = elf::program(&words);
+    program
+        .loads
+        .push(elf::load(0x8000_1000, 0x8000_1000, "rw", &[7, 0]));
+    desk.file("p.elf", program.bytes());
+    let options =
+        "--memory 64K --syscalls --x a7=214 --x s0=50 --x s1=0x8000f000 --x s2=0x80001008";
+    let outcome = desk.run(&format!("run p.elf {options}"));
+    assert!(
+        outcome
+            .out
+            .starts_with("Stopped by a trap in step 302: cause 5"),
+        "{}",
+        outcome.out
+    );
+    assert!(
+        outcome.out.contains("load of 8 bytes at 0x0"),
+        "{}",
+        outcome.out
+    );
+    assert!(
+        outcome.out.contains("calls     100 served"),
+        "{}",
+        outcome.out
+    );
 }

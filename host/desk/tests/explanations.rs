@@ -267,6 +267,7 @@ Stopped by a trap in step 1: cause 8 (environment call from U), tval 0x0, from U
   why       the program made an environment call from U
   values    a7 = 0x5d, a0 = 0xffffffffffffffff, a1 = 0x0, a2 = 0x0
   handler   0x0 in M: no word can be fetched there
+  hint      a7 is 93, the system call exit; --syscalls serves it
 ",
     );
     says(

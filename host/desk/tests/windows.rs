@@ -123,6 +123,26 @@ fn served_calls_are_among_the_last_steps() {
     }
 }
 
+/// What the environment wrote is kept within bounds; where that is too little for the steps asked for, it is said.
+#[test]
+fn a_past_that_is_too_large_is_told() {
+    let desk = Desk::new("windows-large");
+    // ecall (fstat: 128 bytes to 0x80000f00); addi a2,a2,-1; bnez a2,.-8; ebreak
+    let words = [ECALL, 0xfff6_0613, 0xfe06_1ce3, EBREAK];
+    desk.image("p.bin", &words);
+    let run =
+        "run p.bin --memory 4K --syscalls --expect ebreak --x a7=80 --x a1=0x80000f00 --x a2=5000";
+    let (whole, _) = traced(&desk, run, "");
+    let (part, end) = traced(&desk, run, "--trace-last 10000");
+    let note = format!("the trace has the last {} steps and not 10000:", part.len());
+    assert!(end.replace("\n            ", " ").contains(&note), "{end}");
+    assert!((6000..10_000).contains(&part.len()), "{}", part.len());
+    assert_eq!(part, whole[whole.len() - part.len()..]);
+    let (part, end) = traced(&desk, run, "--trace-last 6000");
+    assert!(!end.contains("note"), "{end}");
+    assert_eq!(part, whole[whole.len() - 6000..]);
+}
+
 /// main calls check twice.
 fn calling(desk: &Desk) {
     let (jal_12, jal_8, ret) = (0x00c0_00ef, 0x0080_00ef, 0x0000_8067);

@@ -1,5 +1,6 @@
-//! The C examples, built from Debian's compilers and libraries and run by the desk and by QEMU: the same text and the same exit value.
-//! In M by semihosting (qemu-system-riscv64), in user mode by system calls (qemu-riscv64).
+//! C programs, built from Debian's compilers and libraries and run by the desk and by QEMU: the same text and the same exit value.
+//! In M by semihosting (qemu-system-riscv64), in user mode by system calls (qemu-riscv64). They are those of examples/c, and two that go
+//! through the calls one by one (host/outside/c).
 //!
 //! QEMU 7.2 knows no shadow stack. There it runs what was built without (NAME.plain.elf), and the desk runs the same file, and those with
 //! the shadow stack's instructions by `shadow.py` (NAME.user.elf) and by clang (NAME.clang.elf).
@@ -9,13 +10,13 @@ use crate::qemu;
 use crate::report::Report;
 use std::fs::File;
 use std::io::Write;
-use std::path::Path;
+use std::path::{Path, PathBuf};
 use std::process::{Command, Stdio};
 
 const EXAMPLES: &str = "examples/c";
 const DESK: &str = "./desk";
 /// QEMU for a program in M. It has no end of its own if a program never exits.
-const SYSTEM: [&str; 14] = [
+const SYSTEM: [&str; 16] = [
     "60",
     "qemu-system-riscv64",
     "-machine",
@@ -28,6 +29,8 @@ const SYSTEM: [&str; 14] = [
     "none",
     "-serial",
     "none",
+    "-monitor",
+    "none",
     "-semihosting-config",
     "enable=on,target=native",
 ];
@@ -36,6 +39,10 @@ const SYSTEM: [&str; 14] = [
 const SILENT: [&str; 2] = ["hello", "controller"];
 const SMASHED: &str = "smash";
 const READER: &str = "words";
+/// Those that go through the calls, from a folder of their own, and what they read.
+const CALLS: [&str; 2] = ["semihosting", "calls"];
+const FOLDER: &str = "VPATH=../../host/outside/c";
+const INPUT: &str = "abcdef";
 
 /// What became of a program: what it wrote, and its exit value.
 #[derive(PartialEq, Debug)]
@@ -46,22 +53,12 @@ struct Ended {
 
 pub fn compare() -> Result<u64, String> {
     let mut report = Report::new("c");
-    let folder = gnu::file("c")?;
-    let out = format!(
-        "OUT={}",
-        std::path::absolute(&folder)
-            .map_err(|error| error.to_string())?
-            .display()
-    );
-    gnu::output_of(
-        "make",
-        &["-s", "-C", EXAMPLES, &out, "all", "plain", "clang"],
-    )?;
+    let folder = build()?;
     for name in SILENT {
-        machine(&mut report, &folder, name)?;
+        machine(&mut report, &folder, name, "")?;
         user(&mut report, &folder, name, "", &["plain", "user", "clang"])?;
     }
-    machine(&mut report, &folder, SMASHED)?;
+    machine(&mut report, &folder, SMASHED, "")?;
     user(&mut report, &folder, SMASHED, "", &["plain"])?;
     for kind in ["user", "clang"] {
         caught(&mut report, &folder, kind)?;
@@ -76,9 +73,38 @@ pub fn compare() -> Result<u64, String> {
             &["plain", "user", "clang"],
         )?;
     }
+    let [semihosting, calls] = CALLS;
+    machine(&mut report, &folder, semihosting, INPUT)?;
+    user(
+        &mut report,
+        &folder,
+        calls,
+        INPUT,
+        &["plain", "user", "clang"],
+    )?;
     let gcc = first_line("riscv64-unknown-elf-gcc")?;
     let clang = first_line("clang-19")?;
     Ok(report.finish(format!("{gcc}, {clang}, {}", qemu::version()?)))
+}
+
+/// Builds all of them, and gives the folder in which they then are.
+fn build() -> Result<PathBuf, String> {
+    let folder = gnu::file("c")?;
+    let whole = std::path::absolute(&folder);
+    let whole = whole.map_err(|error| format!("{}: cannot be found: {error}", folder.display()))?;
+    let out = format!("OUT={}", whole.display());
+    let [semihosting, calls] = CALLS;
+    let made = |name: &str, kind: &str| format!("{}/{name}{kind}.elf", whole.display());
+    let own = [
+        made(semihosting, ""),
+        made(calls, ".plain"),
+        made(calls, ".user"),
+        made(calls, ".clang"),
+    ];
+    let mut words = vec!["-s", "-C", EXAMPLES, &out, FOLDER, "all", "plain", "clang"];
+    words.extend(own.iter().map(String::as_str));
+    gnu::output_of("make", &words)?;
+    Ok(folder)
 }
 
 fn first_line(tool: &str) -> Result<String, String> {
@@ -86,8 +112,8 @@ fn first_line(tool: &str) -> Result<String, String> {
     Ok(said.lines().next().unwrap_or("no version").to_string())
 }
 
-/// Runs a command with this input. What it writes to stderr counts too where `both` says so: QEMU's console of semihosting is there.
-fn ended(command: &mut Command, input: &str, both: bool) -> Result<Ended, String> {
+/// Runs a command with this input.
+fn ended(command: &mut Command, input: &str) -> Result<Ended, String> {
     let path = gnu::file("input.txt")?;
     let cannot = |error| format!("{command:?}: cannot be run: {error}");
     File::create(&path)
@@ -96,12 +122,8 @@ fn ended(command: &mut Command, input: &str, both: bool) -> Result<Ended, String
     let input = File::open(&path).map_err(cannot)?;
     let ran = command.stdin(Stdio::from(input)).output();
     let ran = ran.map_err(|error| format!("{command:?}: cannot be run: {error}"))?;
-    let mut text = String::from_utf8_lossy(&ran.stdout).into_owned();
-    if both {
-        text += &String::from_utf8_lossy(&ran.stderr);
-    }
     Ok(Ended {
-        text,
+        text: String::from_utf8_lossy(&ran.stdout).into_owned(),
         status: ran.status.code(),
     })
 }
@@ -113,13 +135,15 @@ fn desk(program: &Path, options: &[&str]) -> Command {
 }
 
 /// A program in M, by semihosting.
-fn machine(report: &mut Report, folder: &Path, name: &str) -> Result<(), String> {
+fn machine(report: &mut Report, folder: &Path, name: &str, input: &str) -> Result<(), String> {
     let program = folder.join(format!("{name}.elf"));
-    let mut qemu = Command::new("timeout");
+    // QEMU's console is stderr for some calls and stdout for others.
+    let mut qemu = Command::new("sh");
+    qemu.args(["-c", "exec timeout \"$@\" 2>&1", "sh"]);
     qemu.args(SYSTEM).arg("-kernel").arg(&program);
-    let theirs = ended(&mut qemu, "", true)?;
+    let theirs = ended(&mut qemu, input)?;
     let options = ["--semihosting", "--exit-status"];
-    let ours = ended(&mut desk(&program, &options), "", false)?;
+    let ours = ended(&mut desk(&program, &options), input)?;
     check(report, &format!("{name} in M"), &ours, &theirs);
     Ok(())
 }
@@ -133,11 +157,11 @@ fn user(
     kinds: &[&str],
 ) -> Result<(), String> {
     let plain = folder.join(format!("{name}.plain.elf"));
-    let theirs = ended(Command::new("qemu-riscv64").arg(plain), input, false)?;
+    let theirs = ended(Command::new("qemu-riscv64").arg(plain), input)?;
     for kind in kinds {
         let program = folder.join(format!("{name}.{kind}.elf"));
         let options = ["--user", "--syscalls", "--exit-status"];
-        let ours = ended(&mut desk(&program, &options), input, false)?;
+        let ours = ended(&mut desk(&program, &options), input)?;
         check(
             report,
             &format!(
@@ -157,7 +181,6 @@ fn caught(report: &mut Report, folder: &Path, kind: &str) -> Result<(), String> 
     let ours = ended(
         &mut desk(&program, &["--user", "--syscalls", "--expect", "18"]),
         "",
-        false,
     )?;
     let told = ours.text.contains("shadow stack mismatch") && ours.text.contains("<unlock+0x0>");
     match (ours.status, told) {

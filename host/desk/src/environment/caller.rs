@@ -1,5 +1,6 @@
 //! The program that called, as a monitor sees it: its registers, and memory where its own loads and stores would go.
 
+use super::semihosting;
 use crate::map::{PageMap, PAGE};
 use crate::names::{M, S};
 use crate::place::{follow, Access, Kind};
@@ -40,7 +41,7 @@ impl<'a> Caller<'a> {
     }
 
     /// Where the call stands.
-    pub fn pc(&self) -> u64 {
+    fn pc(&self) -> u64 {
         self.hart.rest[word::PC]
     }
 
@@ -54,8 +55,14 @@ impl<'a> Caller<'a> {
         self.state.hart.x[10] = value;
     }
 
+    /// Whether the EBREAK that trapped is a semihosting call.
+    pub fn semihosts(&self) -> bool {
+        let (before, behind) = (self.pc().wrapping_sub(4), self.pc().wrapping_add(4));
+        semihosting::is_call(self.fetched(before), self.fetched(behind))
+    }
+
     /// The word that a fetch of the caller would read.
-    pub fn fetched(&self, address: u64) -> Option<u32> {
+    fn fetched(&self, address: u64) -> Option<u32> {
         let physical = self.physical(Kind::Fetch, 4, address).ok()?;
         Some(self.state.bytes(physical, 4) as u32)
     }

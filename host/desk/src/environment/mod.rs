@@ -16,6 +16,7 @@ use crate::facts::object;
 use crate::failure::Failure;
 use crate::map::PageMap;
 use crate::names::{M, S, U};
+use crate::place::{Access, Kind};
 use crate::state::State;
 use caller::Caller;
 use console::Console;
@@ -123,7 +124,7 @@ impl Environment {
         };
         if self.services.syscalls && cause == from_mode {
             Some(Call::System)
-        } else if self.services.semihosting && cause == EBREAK && semihosting::is_call(caller) {
+        } else if self.services.semihosting && cause == EBREAK && caller.semihosts() {
             Some(Call::Semihosting)
         } else {
             None
@@ -173,6 +174,35 @@ impl Environment {
             ),
         };
         Some(format!("{} served{not}", self.served))
+    }
+}
+
+/// A call that `before` makes and that nothing has served: which option would.
+pub fn unserved(before: &State, map: &PageMap, cause: u64, services: Services) -> Option<String> {
+    let word = |address| {
+        let (kind, width) = (Kind::Fetch, 4);
+        let fetch = Access {
+            kind,
+            width,
+            address,
+        };
+        let physical = before.path(map, fetch).end.ok()?;
+        Some(before.bytes(physical, 4) as u32)
+    };
+    let number = before.hart.x[syscalls::A7];
+    match cause {
+        EBREAK if !services.semihosting => {
+            let pc = before.pc();
+            let call = semihosting::is_call(word(pc.wrapping_sub(4)), word(pc.wrapping_add(4)));
+            call.then(|| "this is a semihosting call; --semihosting serves it".into())
+        }
+        8 | 9 | 11 if services.syscalls => Some(
+            "--syscalls serves ECALLs from the mode in which the run began, and this is another"
+                .into(),
+        ),
+        8 | 9 | 11 => syscalls::served(number)
+            .map(|name| format!("a7 is {number}, the system call {name}; --syscalls serves it")),
+        _ => None,
     }
 }
 

@@ -57,10 +57,9 @@ const APPLICATION_EXIT: u64 = 0x2_0026;
 /// What `:semihosting-features` holds: its magic, then EXIT_EXTENDED and STDOUT_STDERR.
 const FEATURES: [u8; 5] = [0x53, 0x48, 0x46, 0x42, 0b11];
 
-/// Whether the EBREAK at the caller's pc is a semihosting call.
-pub fn is_call(caller: &Caller) -> bool {
-    let word = |distance: u64| caller.fetched(caller.pc().wrapping_add(distance));
-    word(4u64.wrapping_neg()) == Some(BEFORE) && word(4) == Some(BEHIND)
+/// Whether an EBREAK is a semihosting call, by the words before it and behind it.
+pub fn is_call(before: Option<u32>, behind: Option<u32>) -> bool {
+    (before, behind) == (Some(BEFORE), Some(BEHIND))
 }
 
 /// What a handle is open on.

@@ -9,7 +9,7 @@ use crate::failure::Failure;
 use crate::names::SP;
 
 const A0: usize = 10;
-const A7: usize = 17;
+pub const A7: usize = 17;
 
 const CLOSE: u64 = 57;
 const READ: u64 = 63;
@@ -18,6 +18,17 @@ const FSTAT: u64 = 80;
 const EXIT: u64 = 93;
 const EXIT_GROUP: u64 = 94;
 const BRK: u64 = 214;
+
+/// Names of those that are served.
+const SERVED: [(u64, &str); 7] = [
+    (CLOSE, "close"),
+    (READ, "read"),
+    (WRITE, "write"),
+    (FSTAT, "fstat"),
+    (EXIT, "exit"),
+    (EXIT_GROUP, "exit_group"),
+    (BRK, "brk"),
+];
 
 /// Names of calls that programs make and that are not served.
 const OTHERS: [(u64, &str); 28] = [
@@ -51,13 +62,16 @@ const OTHERS: [(u64, &str); 28] = [
     (1062, "time"),
 ];
 
-/// A call's name, for the report.
+/// The name of a call that is served.
+pub fn served(number: u64) -> Option<&'static str> {
+    let known = SERVED.iter().find(|(known, _)| *known == number);
+    known.map(|(_, name)| *name)
+}
+
+/// A call's name, for the report. brk is not served where there is no heap.
 pub fn name(number: u64) -> Option<&'static str> {
     let other = OTHERS.iter().find(|(known, _)| *known == number);
-    match number {
-        BRK => Some("brk"),
-        _ => other.map(|(_, name)| *name),
-    }
+    served(number).or(other.map(|(_, name)| *name))
 }
 
 /// What the calls change.

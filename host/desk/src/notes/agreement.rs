@@ -121,3 +121,35 @@ fn a_run_sees_what_a_trace_sees() {
         "{seen:?}"
     );
 }
+
+/// What was kept of an earlier fetch is never taken for another page, mode or setting.
+#[test]
+fn a_watch_fetches_what_the_hart_fetches() {
+    let random = &mut Random(0x0dd_b1a5_ed00);
+    let mem: Vec<u8> = (0..0x2000).map(|_| random.next() as u8).collect();
+    let (mut good, mut bad) = (0, 0);
+    for _ in 0..200 {
+        let map = map(random);
+        let mut watch = Watch::new(&sporhulma::Hart::fresh(), &map);
+        let mut state = State {
+            hart: hart(random),
+            mem: mem.clone(),
+        };
+        for _ in 0..200 {
+            let other = hart(random);
+            // One word of the hart at a time, and pc.
+            let index = random.pick(&[word::MODE, word::SATP, word::MSTATUS, word::MENVCFG]);
+            state.hart.rest[index] = other.rest[index];
+            let code = random.pick(&[0x1000, 0x1008, 0x1ffc, 0x3000, 0xffff_ffff_ffff_f004]);
+            state.hart.rest[word::PC] = random.pick(&[code, code, code, other.rest[word::PC]]);
+            let expected = state.next_word(&map).ok();
+            assert_eq!(watch.fetched(&state, &map).map(|found| found.1), expected);
+            *(if expected.is_some() {
+                &mut good
+            } else {
+                &mut bad
+            }) += 1;
+        }
+    }
+    assert!(good > 2000 && bad > 2000, "{good} {bad}");
+}

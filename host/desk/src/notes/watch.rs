@@ -53,12 +53,11 @@ pub struct Watch {
     page: Option<Page>,
 }
 
-/// Where a page of code lies, as long as nothing changes on which a fetch depends.
+/// Where a page of code lies in a mode and by a satp: whether a fetch goes through depends on nothing else of the hart.
 #[derive(Clone, Copy, Debug)]
 struct Page {
     address: u64,
-    /// Mode, satp, mstatus and menvcfg.
-    regime: [u64; 4],
+    regime: [u64; 2],
     physical: u64,
 }
 
@@ -157,15 +156,15 @@ impl Watch {
             Seen::NotYet => true,
             Seen::Yes => !(user && shadow_stack_on(hart)),
         };
-        let pads = self.pads == Seen::NotYet && !(user && !pads_on(hart));
-        let map = self.map == Seen::NotYet && !(user && !sv39(hart));
-        let masking =
-            self.masking == Seen::NotYet && !(user && hart.rest[word::SENVCFG] & PMM == 0);
+        let pads = self.pads == Seen::NotYet && (!user || pads_on(hart));
+        let map = self.map == Seen::NotYet && (!user || sv39(hart));
+        let masked = hart.rest[word::SENVCFG] & PMM != 0;
+        let masking = self.masking == Seen::NotYet && (!user || masked);
         shadow || pads || map || masking
     }
 
     /// The word that the next step fetches, and its index in memory.
-    fn fetched(&mut self, state: &State, map: &PageMap) -> Option<(usize, u32)> {
+    pub(super) fn fetched(&mut self, state: &State, map: &PageMap) -> Option<(usize, u32)> {
         let physical = match state.mode() == M || !sv39(&state.hart) {
             true => state.pc(),
             false => self.translated(state, map)?,
@@ -176,8 +175,7 @@ impl Watch {
 
     /// Where the map has the next word; what was found last is kept, since words follow each other.
     fn translated(&mut self, state: &State, map: &PageMap) -> Option<u64> {
-        let regime = [word::MODE, word::SATP, word::MSTATUS, word::MENVCFG];
-        let regime = regime.map(|index| state.hart.rest[index]);
+        let regime = [word::MODE, word::SATP].map(|index| state.hart.rest[index]);
         let (address, offset) = (state.pc() & !(PAGE - 1), state.pc() % PAGE);
         match self.page {
             Some(page) if page.address == address && page.regime == regime => {
