@@ -133,7 +133,7 @@ impl<'a> Drive<'a> {
         };
         let (until, steps) = match window {
             Window::From(Start::Step(step), steps) => (Until::Step(*step - 1), *steps),
-            Window::From(Start::Symbol(_, place), steps) => (Until::Place(*place), *steps),
+            Window::From(Start::Place(_, place), steps) => (Until::Place(*place), *steps),
             Window::None | Window::Last(_) => (Until::End, 0),
         };
         let mut past = Past::new(&self.state, keep);

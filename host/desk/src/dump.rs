@@ -22,9 +22,7 @@ pub struct Dump {
 
 enum At {
     Physical(u64),
-    Virtual(u64),
-    /// So far behind a symbol.
-    Symbol(Place, u64),
+    Program(Place),
 }
 
 /// Bytes with one answer: those that follow each other in memory, or those that no load finds, for one reason.
@@ -66,8 +64,7 @@ impl Dump {
                     found: Ok(address),
                 }]
             }
-            At::Virtual(address) => address,
-            At::Symbol(place, offset) => place.address(load(end, map, 0).space()) + offset,
+            At::Program(place) => place.address(load(end, map, 0).space()),
         };
         let mut pieces: Vec<Piece> = Vec::new();
         let mut done = 0;
@@ -140,46 +137,31 @@ impl Piece {
 }
 
 fn at(place: &str, symbols: &Symbols) -> Result<At, String> {
-    if let Some(address) = place.strip_prefix("v:") {
-        return number(address).map(At::Virtual);
+    match place.starts_with(|first: char| first.is_ascii_digit()) {
+        true => number(place).map(At::Physical),
+        false => symbols.place(place).map(At::Program),
     }
-    if place.starts_with(|first: char| first.is_ascii_digit()) {
-        return number(place).map(At::Physical);
-    }
-    let (symbol, offset) = match place.rsplit_once('+') {
-        Some((symbol, offset)) => (symbol, number(offset)?),
-        None => (place, 0),
-    };
-    Ok(At::Symbol(symbols.place(symbol)?, offset))
 }
 
 impl At {
     /// Whether so many bytes can be there at all.
     fn holds(&self, asked: &str, length: u64, memory: u64) -> Result<(), String> {
         let (end, last) = (BASE + memory, BASE + memory - 1);
-        let past = |address: u64, offset: u64| {
-            let first = address.checked_add(offset);
-            first.and_then(|first| first.checked_add(length)).is_none()
-        };
-        let goes_past = match *self {
+        let past = |address: u64| address.checked_add(length).is_none();
+        match *self {
             At::Physical(address) if (BASE..end).contains(&address) && length <= end - address => {
-                return Ok(())
+                Ok(())
             }
-            At::Physical(_) => {
-                return Err(format!(
-                    "{asked} is not all in memory, which is {BASE:#x} to {last:#x}; an address of the program is v:ADDRESS"
-                ))
+            At::Physical(_) => Err(format!(
+                "{asked} is not all in memory, which is {BASE:#x} to {last:#x}; an address of the program is v:ADDRESS"
+            )),
+            At::Program(_) if length > memory => Err(format!(
+                "{asked} is more than memory has; show {memory} bytes or less"
+            )),
+            At::Program(place) if past(place.seen) || past(place.physical) => {
+                Err(format!("{asked} goes past the last address; show less"))
             }
-            At::Virtual(address) => past(address, 0),
-            At::Symbol(place, offset) => past(place.seen, offset) || past(place.physical, offset),
-        };
-        if length > memory {
-            let more = "is more than memory has";
-            return Err(format!("{asked} {more}; show {memory} bytes or less"));
-        }
-        match goes_past {
-            true => Err(format!("{asked} goes past the last address; show less")),
-            false => Ok(()),
+            At::Program(_) => Ok(()),
         }
     }
 }

@@ -55,7 +55,7 @@ pub struct RunOptions {
     pub strict: bool,
     #[arg(long, help = "write each step: address, word, text, what changed")]
     pub trace: bool,
-    #[arg(long, value_name = "SYMBOL|STEP", value_parser = some_text(), help = "begin the trace there: at the first step at a symbol, or with the step of this number")]
+    #[arg(long, value_name = "WHERE|STEP", value_parser = some_text(), help = "begin the trace at the first step at a symbol (main, main+8) or at an address of the program (v:0x10164), or with the step of this number")]
     pub trace_from: Option<String>,
     #[arg(long, value_name = "N", value_parser = window::steps, help = "end the trace after N steps; the run goes on")]
     pub trace_steps: Option<u64>,

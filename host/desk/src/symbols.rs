@@ -7,6 +7,7 @@ use crate::elf::{Elf, Segment};
 use crate::facts::Facts;
 use crate::failure::Failure;
 use crate::names::nearest;
+use crate::number::number;
 use addr2line::gimli::{EndianRcSlice, RunTimeEndian};
 use addr2line::Context;
 use object::{Object, ObjectSymbol, SymbolKind, SymbolSection};
@@ -25,7 +26,7 @@ pub enum Space {
     Physical,
 }
 
-/// Where a symbol lies.
+/// A place of the program. Where the hart does not translate, a symbol lies where its segment was put; an address is what it is.
 #[derive(Clone, Copy, Debug, PartialEq)]
 pub struct Place {
     /// As the program sees it.
@@ -183,14 +184,26 @@ impl Symbols {
         name.map_or(Value::Null, |name| Value::from(name.to_string()))
     }
 
-    /// Where a symbol lies.
-    pub fn place(&self, name: &str) -> Result<Place, String> {
+    /// A place of the program: v: and an address, a symbol, or a symbol, + and how far behind it.
+    pub fn place(&self, text: &str) -> Result<Place, String> {
+        if let Some(address) = text.strip_prefix("v:") {
+            let address = number(address)?;
+            return Ok(Place {
+                seen: address,
+                physical: address,
+            });
+        }
+        let (name, offset) = match text.rsplit_once('+') {
+            Some((name, offset)) => (name, number(offset)?),
+            None => (text, 0),
+        };
         let seen = self.address(name)?;
         let segment = self.segment(seen);
-        Ok(Place {
-            seen,
-            physical: segment.map_or(seen, |segment| seen - segment.address + segment.physical),
-        })
+        let physical = segment.map_or(seen, |segment| seen - segment.address + segment.physical);
+        match (seen.checked_add(offset), physical.checked_add(offset)) {
+            (Some(seen), Some(physical)) => Ok(Place { seen, physical }),
+            _ => Err(format!("{text} lies past the last address; give less")),
+        }
     }
 
     /// The virtual address of a symbol.

@@ -21,17 +21,17 @@ pub enum Window {
 pub enum Start {
     /// With the step of this number; the first is 1.
     Step(u64),
-    /// With the first step at a symbol, which has this name.
-    Symbol(String, Place),
+    /// With the first step at a place, which was given so.
+    Place(String, Place),
 }
 
 impl Start {
     pub fn parse(text: &str, symbols: &Symbols) -> Result<Start, String> {
         if !text.starts_with(|first: char| first.is_ascii_digit()) {
-            return Ok(Start::Symbol(text.into(), symbols.place(text)?));
+            return Ok(Start::Place(text.into(), symbols.place(text)?));
         }
         match number(text)? {
-            0 => Err("the first step is 1; give a step from 1 on, or a symbol".into()),
+            0 => Err("the first step is 1; give a step from 1 on, a symbol or v:ADDRESS".into()),
             step => Ok(Start::Step(step)),
         }
     }
@@ -48,7 +48,7 @@ impl Window {
             Window::From(Start::Step(step), _) if shown == 0 && *step > 1 => {
                 Some(format!("the trace is empty: the run ended before step {step}"))
             }
-            Window::From(Start::Symbol(name, _), _) if shown == 0 => {
+            Window::From(Start::Place(name, _), _) if shown == 0 => {
                 Some(format!("the trace is empty: the hart never came to {name}"))
             }
             _ => None,

@@ -167,7 +167,15 @@ fn from_a_symbol_on() {
         ("--memory 4K --pc 0x80000000".into(), 'M', 0x8000_000cu64),
     ] {
         let run = format!("run p.elf {options} --expect ecall");
-        let (steps, _) = traced(&desk, &run, "--trace-from check --trace-steps 2");
+        let (steps, end) = traced(&desk, &run, "--trace-from check --trace-steps 2");
+        for place in [format!("v:{at:#x}"), "main+12".into(), "main+0xc".into()] {
+            let window = format!("--trace-from {place} --trace-steps 2");
+            assert_eq!(
+                traced(&desk, &run, &window),
+                (steps.clone(), end.clone()),
+                "{place}"
+            );
+        }
         let ret = format!("{at:#x} <check+0x0>");
         let step = format!("      2 {mode} {at:#018x} 00008067  ret");
         assert_eq!(steps[0], ret);
@@ -194,6 +202,10 @@ fn a_window_that_is_never_reached_is_told() {
         (
             "--trace-from 4",
             "the trace is empty: the run ended before step 4",
+        ),
+        (
+            "--trace-from v:0x80000002",
+            "the trace is empty: the hart never came to v:0x80000002",
         ),
         (
             "--trace-from unused",
@@ -225,11 +237,13 @@ fn a_window_that_is_never_reached_is_told() {
 #[rustfmt::skip]
 fn wrong_windows() {
     refused("windows-wrong", calling, &[
-        ("run ok.bin --trace-from 0", "--trace-from: the first step is 1; give a step from 1 on, or a symbol"),
+        ("run ok.bin --trace-from 0", "--trace-from: the first step is 1; give a step from 1 on, a symbol or v:ADDRESS"),
         ("run ok.bin --trace-from 1x", "--trace-from: '1x' is not a number; write it as 4096, 0x1000 or 0b1000"),
         ("run ok.bin --trace-from main", "--trace-from: 'main' is no number, and there are no symbols; give an ELF file, or --symbols FILE.elf"),
         ("run p.elf --trace-from mian", "--trace-from: there is no symbol 'mian'; did you mean main?"),
-        ("run ok.bin --trace-from", "--trace-from: its SYMBOL|STEP is missing; write --trace-from SYMBOL|STEP"),
+        ("run ok.bin --trace-from", "--trace-from: its WHERE|STEP is missing; write --trace-from WHERE|STEP"),
+        ("run ok.bin --trace-from v:main", "--trace-from: 'main' is not a number; write it as 4096, 0x1000 or 0b1000"),
+        ("run p.elf --trace-from main+0xffffffffffff0000", "--trace-from: main+0xffffffffffff0000 lies past the last address; give less"),
         ("run ok.bin --trace-steps 0", "--trace-steps: 0 steps show nothing; try 1 or more"),
         ("run ok.bin --trace-steps few", "--trace-steps: 'few' is not a number; write it as 4096, 0x1000 or 0b1000"),
         ("run ok.bin --trace-last 0", "--trace-last: 0 steps show nothing; try 1 or more"),
