@@ -130,6 +130,18 @@ fn recursion_counts_once() {
         [row("down", 799, 799, 100), row("main", 2, 801, 1)]
     );
     assert_eq!(*object.at("profile").at("cut"), Value::Null);
+    // Of a hundred levels the picture has eighty, and says so.
+    let text = format!(
+        "{} --x a0=100 --profile-svg p.svg",
+        run.replace("--json", "")
+    );
+    assert_eq!(desk.run(&text).status, 0);
+    let svg = fs::read_to_string(desk.folder.join("p.svg")).unwrap();
+    assert_eq!(svg.matches("<g>").count(), 80);
+    assert!(
+        svg.contains(">Calls more than 80 deep are not drawn ("),
+        "{svg}"
+    );
     // Deeper than is kept: own steps stay exact, and it is said that the calls were cut.
     let object = desk.object(&format!("{run} --x a0=2000"));
     assert_eq!(
@@ -139,9 +151,9 @@ fn recursion_counts_once() {
     assert!(object.at("profile").at("cut").text().contains("500 levels"));
 }
 
-/// A call that never comes back, 300,000 times: neither memory nor time runs away.
+/// A call that never comes back, 300,000 times, of which not all have a place.
 #[test]
-fn calls_without_returns_are_bounded() {
+fn calls_without_returns() {
     let desk = Desk::new("profile-endless");
     // addi a0,a0,-1; beqz a0,.+8; jal ra,.-8; ecall
     desk.image("p.bin", &[0xfff5_0513, 0x0005_0463, jal(1, -8), ECALL]);
@@ -210,6 +222,52 @@ fn a_stray_return_is_a_jump() {
         row("main", 1, 4, 1),
         row("other", 1, 1, 1),
     ];
+    assert_eq!(rows(&object), expected);
+}
+
+/// x5 is a link register too, as small functions of a compiler's library use it; and a JALR that goes by one and writes the other is a
+/// return and a call.
+#[test]
+fn the_other_link_register() {
+    let desk = Desk::new("profile-x5");
+    let (jr_t0, jalr_t0_ra) = (0x0002_8067, 0x0000_82e7);
+    let words = [
+        jal(1, 12), // 0 main: call half
+        jr_t0,      // 4 back into half
+        NOP,        // 8
+        jal(5, 12), // 12 half: call save, by t0
+        jalr_t0_ra, // 16 to main, which goes on with half by t0
+        ECALL,      // 20
+        NOP,        // 24 save
+        jr_t0,      // 28
+    ];
+    let mut elf = program(&words);
+    elf.symbols = vec![
+        Symbol("main", 0x8000_0000, 12, FUNCTION),
+        Symbol("half", 0x8000_000c, 12, FUNCTION),
+        Symbol("save", 0x8000_0018, 8, FUNCTION),
+    ];
+    desk.file("p.elf", elf.bytes());
+    let object = desk.object("run p.elf --memory 4K --expect ecall --profile --json");
+    // half is over at its swap, which enters main for a second time, under itself. Its JR ends that, and half takes main's place.
+    let expected = [
+        row("half", 3, 5, 2),
+        row("main", 2, 6, 2),
+        row("save", 2, 2, 1),
+    ];
+    assert_eq!(rows(&object), expected);
+}
+
+/// Code behind the end of a function, which no symbol has, is told by where the hart came into it.
+#[test]
+fn code_without_a_name_beside_functions() {
+    let desk = Desk::new("profile-nameless");
+    let words = [jal(0, 12), NOP, ECALL, NOP, jal(0, -12)];
+    let mut elf = program(&words);
+    elf.symbols = vec![Symbol("main", 0x8000_0000, 12, FUNCTION)];
+    desk.file("p.elf", elf.bytes());
+    let object = desk.object("run p.elf --memory 4K --expect ecall --profile --json");
+    let expected = [row("main", 3, 3, 2), row("0x8000000c", 2, 2, 1)];
     assert_eq!(rows(&object), expected);
 }
 

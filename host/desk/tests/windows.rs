@@ -123,6 +123,33 @@ fn served_calls_are_among_the_last_steps() {
     }
 }
 
+/// What a program read is there when its last steps are made again.
+#[test]
+fn what_was_read_is_there_again() {
+    let desk = Desk::new("windows-read");
+    desk.file("input", "the quick brown fox");
+    // li a0,0; ecall (read of one byte); lbu a3,0(a1); bnez a0,.-12; ebreak
+    let words = [0x0000_0513, ECALL, 0x0005_c683, 0xfe05_1ae3, EBREAK];
+    desk.image("p.bin", &words);
+    let run =
+        "run p.bin --memory 4K --syscalls --expect ebreak --x a7=63 --x a1=0x80000f00 --x a2=1";
+    let traced = |window: &str| {
+        let line = format!("{run} {window} --trace-to t.txt");
+        let words: Vec<&str> = line.split_whitespace().collect();
+        let input = fs::File::open(desk.folder.join("input")).unwrap();
+        let output = desk.command(&words).stdin(input).output().unwrap();
+        assert_eq!(output.status.code(), Some(0), "{output:?}");
+        fs::read_to_string(desk.folder.join("t.txt")).unwrap()
+    };
+    let (whole, last) = (traced(""), traced("--trace-last 30"));
+    assert!(whole.contains("a3=0x71"), "{whole}"); // q
+    assert!(
+        last.contains("a3=0x78") && !last.contains("a3=0x71"),
+        "{last}"
+    ); // x
+    assert!(whole.ends_with(&last), "{last}");
+}
+
 /// What the environment wrote is kept within bounds; where that is too little for the steps asked for, it is said.
 #[test]
 fn a_past_that_is_too_large_is_told() {

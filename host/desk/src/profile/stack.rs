@@ -141,3 +141,45 @@ impl Stack {
         }
     }
 }
+
+#[cfg(test)]
+mod tests {
+    use super::*;
+
+    /// The manual's table of hints for JALR, by rd and rs1; and those for JAL, by rd.
+    #[test]
+    fn jumps_by_their_link_registers() {
+        let jalr = |rd: u32, rs1: u32| Move::of(Some(rs1 << 15 | rd << 7 | 0x67));
+        for other in [0, 2, 4, 6, 10, 31] {
+            assert_eq!(jalr(other, other), Move::Jump);
+            for link in [1, 5] {
+                assert_eq!(jalr(other, link), Move::Return);
+                assert_eq!(jalr(link, other), Move::Call);
+            }
+        }
+        assert_eq!((jalr(1, 5), jalr(5, 1)), (Move::Swap, Move::Swap));
+        assert_eq!((jalr(1, 1), jalr(5, 5)), (Move::Call, Move::Call));
+        let jal = |rd: u32| Move::of(Some(rd << 7 | 0x6f));
+        assert_eq!((jal(1), jal(5)), (Move::Call, Move::Call));
+        assert_eq!((jal(0), jal(10)), (Move::Jump, Move::Jump));
+        assert_eq!(Move::of(Some(MRET)), Move::TrapReturn);
+        assert_eq!(Move::of(Some(SRET)), Move::TrapReturn);
+        assert_eq!(
+            (Move::of(Some(0x63)), Move::of(None)),
+            (Move::Jump, Move::Jump)
+        );
+    }
+
+    #[test]
+    fn a_stack_has_bounds() {
+        let mut tree = Tree::new();
+        let mut stack = Stack::new(0, &mut tree);
+        for call in 0..2 * MOST_CALLS as u64 {
+            stack.calls(Move::Call, call, 1, &mut tree);
+        }
+        assert_eq!(stack.frames.len(), MOST_CALLS + 1);
+        assert_eq!(stack.waiting.len(), MOST_CALLS);
+        stack.returns(Move::Return, 7);
+        assert_eq!((stack.frames.len(), stack.waiting.len()), (8, 7));
+    }
+}
