@@ -226,12 +226,20 @@ impl<'a> Drive<'a> {
     }
 
     /// How many steps can be made at most in one call without going too far; 0 where it is reached.
-    fn up_to(&self, until: Until) -> u64 {
+    fn up_to(&mut self, until: Until) -> u64 {
         match until {
             Until::End => u64::MAX,
             Until::Step(count) => count.saturating_sub(self.count),
-            // Where the hart is can be seen between calls only.
-            Until::Place(place) => u64::from(self.state.pc() != place.address(self.state.space())),
+            // Where the hart is can be seen between calls only: so it goes no further than is known from the words ahead.
+            Until::Place(place) => {
+                let way = place
+                    .address(self.state.space())
+                    .wrapping_sub(self.state.pc());
+                match way {
+                    0 => 0,
+                    way => self.watch.line(&self.state, self.map).min(way.div_ceil(4)),
+                }
+            }
         }
     }
 

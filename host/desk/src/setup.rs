@@ -58,13 +58,7 @@ impl Job {
             symbols,
         } = load(options)?;
         let user = layout.as_ref().filter(|_| options.user);
-        let mut hart = hart(user.map_or_else(Hart::fresh, start::user), &options.start)?;
-        hart.rest[word::PC] = pc(&options.start, &image)?.unwrap_or(hart.rest[word::PC]);
-        let state = State { hart, mem };
-        let limits = Limits {
-            steps: options.steps,
-            follow: options.follow,
-        };
+        let hart = started(options, &image, user)?;
         let symbols = match &options.symbols {
             Some(path) => load::symbols(path)?,
             None => symbols,
@@ -87,11 +81,21 @@ impl Job {
             save: output(options, "--save", &options.save)?,
             frames: options.frames,
             json: options.json,
+            state: State { hart, mem },
+            limits: Limits {
+                steps: options.steps,
+                follow: options.follow,
+            },
             image,
-            state,
-            limits,
         })
     }
+}
+
+/// The hart at the start, for `--user` that of a user program.
+fn started(options: &RunOptions, image: &Image, user: Option<&Layout>) -> Result<Hart, Failure> {
+    let mut hart = hart(user.map_or_else(Hart::fresh, start::user), &options.start)?;
+    hart.rest[word::PC] = pc(&options.start, image)?.unwrap_or(hart.rest[word::PC]);
+    Ok(hart)
 }
 
 /// What serves the program's calls: something must, where its exit is waited for.

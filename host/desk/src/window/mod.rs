@@ -1,5 +1,8 @@
 //! Which steps of a run a trace shows.
 
+#[cfg(test)]
+mod agreement;
+
 use crate::drive::End;
 use crate::number::number;
 use crate::symbols::{Place, Symbols};
