@@ -219,6 +219,19 @@ fn from_a_symbol_on() {
     assert!(steps[1].starts_with("      1 M"), "{steps:?}");
 }
 
+/// A program that writes a jump into its own words ahead: the desk looks for the address in stretches, and none goes over a store.
+#[test]
+fn from_where_changed_words_lead() {
+    let desk = Desk::new("windows-changed");
+    // sd a0,0(a1) puts j .+16 and a nop to 0x80000008.
+    desk.image("p.bin", &[SD_A0_A1, NOP, NOP, NOP, NOP, NOP, NOP, ECALL]);
+    let run = "run p.bin --memory 4K --x a1=0x80000008 --x a0=0x000000130100006f";
+    let (steps, _) = traced(&desk, run, "--trace-from v:0x80000018 --trace-steps 1");
+    assert_eq!(steps.len(), 1);
+    let step = "      4 M 0x0000000080000018 00000013  nop";
+    assert!(steps[0].starts_with(step), "{steps:?}");
+}
+
 /// A window that the run never reached is a note.
 #[test]
 fn a_window_that_is_never_reached_is_told() {
