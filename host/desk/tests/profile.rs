@@ -85,6 +85,23 @@ fn a_tail_call_takes_the_place_of_its_caller() {
     assert_eq!(*object.at("profile").at("cut"), Value::Null);
 }
 
+/// Two functions of one name, as two files may have, are told apart by their addresses.
+#[test]
+fn functions_of_one_name() {
+    let desk = Desk::new("profile-same-name");
+    let mut elf = tail();
+    elf.symbols[1].0 = "second";
+    desk.file("p.elf", elf.bytes());
+    let outcome = desk.run("run p.elf --memory 4K --expect ecall --profile");
+    for row in [
+        "2  second (0x80000014)\n",
+        "1  main\n",
+        "1  second (0x8000000c)\n",
+    ] {
+        assert!(outcome.out.contains(row), "{}", outcome.out);
+    }
+}
+
 /// Without symbols a function is where a call goes; what follows by jumps belongs to it.
 #[test]
 fn without_symbols_functions_are_addresses() {

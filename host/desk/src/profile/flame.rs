@@ -60,8 +60,9 @@ pub fn draw(counts: &Counts, image: &str) -> String {
     for (note, row) in notes.iter().zip(1..) {
         svg += &line(bottom + 6.0 + ROW * f64::from(row), &plain, note);
     }
+    let labels = counts.functions.labels();
     for tile in &tiles {
-        svg += &shape(counts, &totals, tile, bottom);
+        svg += &shape(counts, &labels, tile, (totals[tile.node], bottom));
     }
     svg + "</svg>\n"
 }
@@ -135,12 +136,11 @@ fn tiles(counts: &Counts, totals: &[u64]) -> (Vec<Tile>, Left) {
 }
 
 /// A box with its label as far as that fits, and all of it where one points at it.
-fn shape(counts: &Counts, totals: &[u64], tile: &Tile, bottom: f64) -> String {
+fn shape(counts: &Counts, labels: &[String], tile: &Tile, (all, bottom): (u64, f64)) -> String {
     let Some(function) = counts.tree.function(tile.node) else {
         return String::new();
     };
-    let label = counts.functions.label(function);
-    let (all, own) = (totals[tile.node], counts.tree.own(tile.node));
+    let (label, own) = (&labels[function], counts.tree.own(tile.node));
     let share = percent(all, counts.steps);
     let colour = match counts.functions.is_named(function) {
         true => COLOURS[function % COLOURS.len()],
@@ -150,7 +150,7 @@ fn shape(counts: &Counts, totals: &[u64], tile: &Tile, bottom: f64) -> String {
     let told = escaped(&format!(
         "{label}: {all} steps ({share}), {own} of them its own"
     ));
-    let text = match fitting(&format!("{label} {share}"), &label, tile.width) {
+    let text = match fitting(&format!("{label} {share}"), label, tile.width) {
         Some(text) => format!(
             "<text x=\"{:.1}\" y=\"{:.1}\" fill=\"{INK}\" font-family=\"'DejaVu Sans Mono', Menlo, Consolas, monospace\" font-size=\"12\">{}</text>",
             x + 4.0,

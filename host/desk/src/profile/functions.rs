@@ -72,16 +72,21 @@ impl Functions {
         self.all.iter().map(|function| function.own).sum()
     }
 
-    /// What a function is called: its symbol, with the address where another has the same, or the address alone.
-    pub fn label(&self, id: Id) -> String {
-        let function = &self.all[id];
-        let Some(name) = &function.name else {
-            return format!("{:#x}", function.address);
-        };
-        let same = |other: &&Function| other.name.as_ref() == Some(name);
-        match self.all.iter().filter(same).count() {
-            1 => name.clone(),
-            _ => format!("{name} ({:#x})", function.address),
+    /// What each function is called: its symbol, with the address where another has the same, or the address alone.
+    pub fn labels(&self) -> Vec<String> {
+        let mut named: HashMap<&str, usize> = HashMap::new();
+        for name in self
+            .all
+            .iter()
+            .filter_map(|function| function.name.as_deref())
+        {
+            *named.entry(name).or_default() += 1;
         }
+        let label = |function: &Function| match &function.name {
+            Some(name) if named[name.as_str()] == 1 => name.clone(),
+            Some(name) => format!("{name} ({:#x})", function.address),
+            None => format!("{:#x}", function.address),
+        };
+        self.all.iter().map(label).collect()
     }
 }

@@ -38,7 +38,7 @@ impl Counts {
     }
 
     pub fn text(&self) -> String {
-        let rows = self.rows();
+        let (rows, labels) = (self.rows(), self.functions.labels());
         let mut text = format!(
             "Where the steps were made: {}, each one counted ('all': with what it called)\n",
             self.headline()
@@ -47,7 +47,7 @@ impl Counts {
         for row in rows.iter().take(LINES) {
             let (own, all) = (percent(row.own, self.steps), percent(row.all, self.steps));
             let entered = self.functions.all[row.id].entered;
-            let label = self.functions.label(row.id);
+            let label = &labels[row.id];
             let (own_steps, all_steps) = (row.own, row.all);
             text += &format!(
                 "{own_steps:>12} {own:>6}  {all_steps:>12} {all:>6}  {entered:>11}  {label}\n"
