@@ -3,7 +3,9 @@
 mod common;
 
 use common::*;
+use std::env;
 use std::io::Read;
+use std::os::unix::process::ExitStatusExt;
 use std::process::{Child, Command, Stdio};
 use std::thread::sleep;
 use std::time::{Duration, Instant};
@@ -76,6 +78,10 @@ fn a_hart_that_stands_still_is_an_end() {
     );
 }
 
+fn emulated() -> bool {
+    env::var_os("SPORHULMA_RUNNER").is_some_and(|name| !name.is_empty())
+}
+
 /// A program on the desk. What is pressed before the desk watches Ctrl-C is lost, and does not end it: how long it takes to begin depends on the
 /// machine, and is longer under an emulator.
 fn begun(desk: &Desk, arguments: &str, input: Stdio) -> Child {
@@ -110,6 +116,19 @@ fn pressed(child: &mut Child, pause: Duration) -> (Option<i32>, u32) {
     panic!("Ctrl-C did not end it");
 }
 
+/// Under an emulator Ctrl-C is not watched (host/desk/src/interrupt.rs): it ends the desk at once, by the signal.
+fn ended_by_the_signal(desk: &Desk) {
+    let mut child = desk
+        .command(&["run", "p.bin", "--memory", "4K"])
+        .stdout(Stdio::null())
+        .spawn()
+        .unwrap();
+    sleep(Duration::from_secs(5));
+    let kill = format!("kill -INT {}", child.id());
+    assert!(Command::new("sh").args(["-c", &kill]).status().is_ok());
+    assert_eq!(child.wait().unwrap().signal(), Some(2));
+}
+
 /// A loop that never ends, until Ctrl-C ends it with a report.
 #[test]
 fn ctrl_c_ends_a_run_with_its_report() {
@@ -119,6 +138,9 @@ fn ctrl_c_ends_a_run_with_its_report() {
         0xffdf_f06f, // j .-4
     ];
     desk.image("p.bin", &words);
+    if emulated() {
+        return ended_by_the_signal(&desk);
+    }
     for options in ["", "--json", "--trace-to t.txt"] {
         let arguments = format!("run p.bin --memory 4K {options}");
         let mut child = begun(&desk, &arguments, Stdio::null());
@@ -138,6 +160,9 @@ fn ctrl_c_ends_a_run_with_its_report() {
 /// A program that waits for input: the second Ctrl-C ends the desk at once.
 #[test]
 fn a_second_ctrl_c_ends_the_desk() {
+    if emulated() {
+        return; // there the first one does
+    }
     let desk = Desk::new("ctrl-c-twice");
     desk.image("p.bin", &[ECALL, EBREAK]);
     let arguments = "run p.bin --memory 4K --syscalls --x a7=63 --x a1=0x80000100 --x a2=1";
