@@ -22,7 +22,8 @@ pub struct DisasmOptions {
     most: Option<u64>,
 }
 
-fn address(text: &str) -> Result<u64, String> {
+/// The address of an instruction.
+pub fn address(text: &str) -> Result<u64, String> {
     match number(text)? {
         at if at % 4 != 0 => Err(format!(
             "{at:#x} is not a multiple of 4; try {:#x}",

@@ -25,7 +25,7 @@ mod names;
 mod system;
 
 pub use fields::Word;
-pub use names::{csr_name, register};
+pub use names::{csr_address, csr_name, csr_names, register, register_number};
 
 /// The text of `word`, standing at `pc` (only jumps and branches depend on `pc`).
 ///
