@@ -76,6 +76,8 @@ pub struct Drive<'a> {
     limits: Limits,
     count: u64,
     followed: u64,
+    /// Whether the last step took a given word.
+    given: bool,
     watch: Watch,
     environment: Environment,
 }
@@ -103,6 +105,7 @@ impl<'a> Drive<'a> {
             limits,
             count: 0,
             followed: 0,
+            given: false,
             environment,
         };
         drive.call(0)?;
@@ -149,6 +152,7 @@ impl<'a> Drive<'a> {
         let mut before = self.state.clone();
         while self.left() > 0 {
             before.hart = self.state.hart;
+            before.given = self.state.given;
             let answer = self.watched(1)?;
             let written = explain::written(&before, self.map).filter(|_| !answer.trapped);
             let written = written.unwrap_or(0..0);
@@ -203,8 +207,8 @@ impl<'a> Drive<'a> {
 
     /// One call of the proved run.
     fn call(&mut self, budget: u64) -> Result<Answer, Failure> {
-        let State { hart, mem } = &mut self.state;
-        let answer = sporhulma::run(hart, mem, &self.map.words, budget);
+        self.given = self.state.given.is_some();
+        let answer = self.state.steps(self.map, budget);
         if answer.refusal != 0 {
             let length = self.state.mem.len() as u64;
             let words = &self.map.words;
@@ -217,8 +221,8 @@ impl<'a> Drive<'a> {
 
     /// What comes after a call that began with `hart`.
     fn next(&mut self, hart: &Hart, answer: Answer) -> Result<Next, Failure> {
-        // A step is a function of hart, memory and map, and neither a trap nor a step that leaves pc writes memory.
-        let same = answer.count == 1 && *hart == self.state.hart;
+        // A step that fetches is a function of hart, memory and map, and neither a trap nor a step that leaves pc writes memory.
+        let same = answer.count == 1 && !self.given && *hart == self.state.hart;
         if answer.trapped {
             match self
                 .environment

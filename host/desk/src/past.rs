@@ -47,6 +47,7 @@ impl Past {
             return;
         }
         self.start.hart = state.hart;
+        self.start.given = state.given;
         self.start.mem.copy_from_slice(&state.mem);
         self.calls.clear();
         (self.steps, self.since, self.written) = (0, 0, 0);
@@ -88,8 +89,7 @@ impl Past {
 fn again(state: &mut State, map: &PageMap, steps: u64) -> Result<(), Failure> {
     let mut left = steps;
     while left > 0 {
-        let State { hart, mem } = state;
-        let answer = sporhulma::run(hart, mem, &map.words, left.min(MOST_STEPS));
+        let answer = state.steps(map, left.min(MOST_STEPS));
         if answer.refusal != 0 {
             let wrong = "the same steps came out differently: a fault of the desk";
             return Err(Failure::Tool(wrong.into()));

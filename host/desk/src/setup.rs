@@ -13,6 +13,7 @@ use crate::run_options::{Expect, RunOptions, Wanted};
 use crate::start::{self, hart, pc};
 use crate::state::State;
 use crate::symbols::Symbols;
+use crate::words;
 use sporhulma::{word, Hart, BASE};
 
 /// All that `desk run` was asked to do.
@@ -55,7 +56,8 @@ impl Job {
         let user = layout.as_ref().filter(|_| options.user);
         let mut hart = hart(user.map_or_else(Hart::fresh, start::user), &options.start)?;
         hart.rest[word::PC] = pc(&options.start, &image)?.unwrap_or(hart.rest[word::PC]);
-        let state = State { hart, mem };
+        let given = given(options, hart.rest[word::PC])?;
+        let state = State { hart, mem, given };
         let limits = Limits {
             steps: options.steps,
             follow: options.follow,
@@ -85,6 +87,13 @@ impl Job {
             limits,
         })
     }
+}
+
+/// The word that the first step takes, if one is given; what it says of targets is from pc on.
+fn given(options: &RunOptions, pc: u64) -> Result<Option<u32>, Failure> {
+    let word = options.word.as_deref().map(|text| words::given(text, pc));
+    word.transpose()
+        .map_err(|wrong| Failure::at("--word", wrong))
 }
 
 /// What serves the program's calls: something must, where its exit is waited for.

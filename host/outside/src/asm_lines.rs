@@ -15,8 +15,8 @@ use std::collections::BTreeSet;
 /// How many random legal words there are.
 const RANDOM: usize = 100_000;
 
-/// Spellings that the disassembler does not print, and the one word that the sample does not have.
-const SPELLINGS: [&str; 25] = [
+/// Spellings that the disassembler does not print, and two words that the sample may not have.
+const SPELLINGS: [&str; 26] = [
     "addi x10, fp, -2048",
     "addi a0,a0,0xffffffffffffffff",
     "andi a0 , a1 , 0b11",
@@ -42,6 +42,7 @@ const SPELLINGS: [&str; 25] = [
     "csrrwi x0,mscratch,31",
     "addi a0,a0,1 # a comment",
     "unimp",
+    "fence.tso",
 ];
 
 /// Lines that both refuse. Targets out of reach are none of them: as makes two instructions of such a branch.
