@@ -61,5 +61,5 @@ fn any_line_has_a_word_or_a_reason() {
             }
         }
     }
-    assert!(taken > 5_000 && refused > 100_000, "{taken} {refused}");
+    assert!(taken > 3_000 && refused > 100_000, "{taken} {refused}");
 }
