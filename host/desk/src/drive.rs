@@ -151,8 +151,7 @@ impl<'a> Drive<'a> {
     ) -> Result<End, Failure> {
         let mut before = self.state.clone();
         while self.left() > 0 {
-            before.hart = self.state.hart;
-            before.given = self.state.given;
+            (before.hart, before.given) = (self.state.hart, self.state.given);
             let answer = self.watched(1)?;
             let written = explain::written(&before, self.map).filter(|_| !answer.trapped);
             let written = written.unwrap_or(0..0);

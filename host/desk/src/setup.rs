@@ -53,11 +53,7 @@ impl Job {
             layout,
             symbols,
         } = load(options)?;
-        let user = layout.as_ref().filter(|_| options.user);
-        let mut hart = hart(user.map_or_else(Hart::fresh, start::user), &options.start)?;
-        hart.rest[word::PC] = pc(&options.start, &image)?.unwrap_or(hart.rest[word::PC]);
-        let given = given(options, hart.rest[word::PC])?;
-        let state = State { hart, mem, given };
+        let state = state(options, &image, mem, layout.as_ref())?;
         let limits = Limits {
             steps: options.steps,
             follow: options.follow,
@@ -87,6 +83,20 @@ impl Job {
             limits,
         })
     }
+}
+
+/// The state at the start.
+fn state(
+    options: &RunOptions,
+    image: &Image,
+    mem: Vec<u8>,
+    layout: Option<&Layout>,
+) -> Result<State, Failure> {
+    let user = layout.filter(|_| options.user);
+    let mut hart = hart(user.map_or_else(Hart::fresh, start::user), &options.start)?;
+    hart.rest[word::PC] = pc(&options.start, image)?.unwrap_or(hart.rest[word::PC]);
+    let given = given(options, hart.rest[word::PC])?;
+    Ok(State { hart, mem, given })
 }
 
 /// The word that the first step takes, if one is given; what it says of targets is from pc on.
