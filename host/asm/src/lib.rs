@@ -66,6 +66,10 @@ fn instruction(mnemonic: Piece, rest: Piece, pc: u64) -> Result<u32, Wrong> {
     let (name, number) = numbered(mnemonic.text);
     let operands = rest.operands();
     let row = chosen(mnemonic, name, rest, &operands)?;
+    if let Some(empty) = operands.iter().find(|piece| piece.text.is_empty()) {
+        let what = format!("an operand is missing here; write {}", row.usage());
+        return Err(Wrong::at(empty.column, what));
+    }
     let mut numbers = row.numbers;
     if let Some(n) = number {
         numbers[OPERATION] = n;

@@ -55,26 +55,21 @@ impl Operand {
 
     /// Reads the operand, of an instruction at `pc`, into its numbers.
     pub fn read(&self, piece: Piece, pc: u64, numbers: &mut [u64; 8]) -> Result<(), Wrong> {
-        match self {
-            Operand::Memory | Operand::Place | Operand::Base => {
-                return self.address(piece, numbers)
-            }
-            Operand::Literal(wanted) => return literal(piece, wanted),
-            _ => one(piece)?,
-        }
         match *self {
-            Operand::Register(at) => numbers[at] = register(piece)?,
-            Operand::Number(at, _) => numbers[at] = number(piece)?,
-            Operand::Upper => numbers[IMMEDIATE] = upper(piece)?,
-            Operand::Target(_) => numbers[IMMEDIATE] = distance(piece, pc)?,
-            Operand::Csr => numbers[FIRST] = csr(piece)?,
-            Operand::Set(at) => numbers[at] = set(piece)?,
-            _ => {
-                let bits = twelve(piece)?;
+            Operand::Register(at) => numbers[at] = register(one(piece)?)?,
+            Operand::Number(at, _) => numbers[at] = number(one(piece)?)?,
+            Operand::Upper => numbers[IMMEDIATE] = upper(one(piece)?)?,
+            Operand::Target(_) => numbers[IMMEDIATE] = distance(one(piece)?, pc)?,
+            Operand::Memory | Operand::Place | Operand::Base => self.address(piece, numbers)?,
+            Operand::Csr => numbers[FIRST] = csr(one(piece)?)?,
+            Operand::Set(at) => numbers[at] = set(one(piece)?)?,
+            Operand::Fence => {
+                let bits = twelve(one(piece)?)?;
                 numbers[OPERATION] = bits >> 8;
                 numbers[FIRST] = bits >> 4 & 15;
                 numbers[SECOND] = bits & 15;
             }
+            Operand::Literal(wanted) => literal(piece, wanted)?,
         }
         Ok(())
     }
@@ -83,8 +78,7 @@ impl Operand {
     fn address(&self, piece: Piece, numbers: &mut [u64; 8]) -> Result<(), Wrong> {
         let Some(open) = piece.text.find('(') else {
             if matches!(self, Operand::Place) {
-                one(piece)?;
-                numbers[RS1] = register(piece)?;
+                numbers[RS1] = register(one(piece)?)?;
                 return Ok(());
             }
             let right = self.usage();
@@ -104,8 +98,7 @@ impl Operand {
             return Err(Wrong::at(before.column, what));
         }
         if !before.text.is_empty() {
-            one(before)?;
-            numbers[IMMEDIATE] = number(before)?;
+            numbers[IMMEDIATE] = number(one(before)?)?;
         }
         numbers[RS1] = bracketed(behind.without_first())?;
         Ok(())
@@ -135,14 +128,16 @@ impl Operand {
     }
 }
 
-/// Sees that an operand is one word.
-fn one(piece: Piece) -> Result<(), Wrong> {
+/// An operand that is one word.
+fn one(piece: Piece) -> Result<Piece, Wrong> {
     let (first, rest) = piece.first();
-    match (first.text, rest.text) {
-        ("", _) => Err(Wrong::at(piece.column, "an operand is missing here")),
-        (_, "") => Ok(()),
-        (first, text) => {
-            let what = format!("'{text}' follows '{first}' in the same operand; write a comma between operands, and one instruction a line");
+    match rest.text {
+        "" => Ok(piece),
+        text => {
+            let what = format!(
+                "'{text}' follows '{}' in the same operand; write a comma between operands, and one instruction a line",
+                first.text
+            );
             Err(Wrong::at(rest.column, what))
         }
     }
@@ -180,9 +175,8 @@ fn bracketed(piece: Piece) -> Result<u64, Wrong> {
         ));
     };
     let (inside, behind) = piece.split_at(close);
-    one(inside)?;
     match behind.without_first() {
-        Piece { text: "", .. } => register(inside),
+        Piece { text: "", .. } => register(one(inside)?),
         rest => {
             let what = format!("'{}' follows the closing bracket; leave it out", rest.text);
             Err(Wrong::at(rest.column, what))
