@@ -1,6 +1,5 @@
 -- The laws of bytes in memory that belong to no one function.
 pub mod Accepted
-pub mod Front
+pub mod Halves
 pub mod Numbers
-pub mod Turns
 pub mod Stores

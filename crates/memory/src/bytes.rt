@@ -1,9 +1,10 @@
-// The two loops over the bytes of an access, for any number of bytes, and a load of four bytes without a loop.
+// The bytes of an access, by doubling: one byte, two of them, two twos, two fours. With no loop over the number of bytes, the compiler
+// makes one access of each.
 ghost use mathlib.Core.Path.{_≡_};
 ghost use mathlib.Core.List.{_++_};
 ghost use Prim.Native.Nat.{_+_, _^_, _<_, _≤_};
 ghost use lib.ListN.{length, drop};
-ghost use Rattle.memory.specs.Bytes.{loadOf, bytesOf, storeOf};
+ghost use Rattle.memory.specs.Bytes.{loadOf, bytesOf};
 
 fn wide(x: u8) -> u64
     ensures { λ r. ⌜ (r ≡ x) × (r < 256) ⌝ }
@@ -11,50 +12,63 @@ fn wide(x: u8) -> u64
     x as u64
 }
 
-// The number in the n bytes at a place. It is built from the highest byte down.
-pub fn read(mem: &[u8], at: usize, n: usize) -> u64
-    requires { ⌜ (n ≤ 8) × (at + n ≤ length (now mem)) ⌝ }
-    ensures { λ r. ⌜ (r ≡ loadOf (now (mem .entry)) at n) × (r < 256 ^ n) ⌝ }
+// The number in one byte, and in two, four and eight bytes: the lower half, and the upper half with its weight.
+pub fn read_1(mem: &[u8], at: usize) -> u64
+    requires { ⌜ at + 1 ≤ length (now mem) ⌝ }
+    ensures { λ r. ⌜ (r ≡ loadOf (now (mem .entry)) at 1) × (r < 256 ^ 1) ⌝ }
 {
-    let mut v: u64 = 0;
-    let mut i = n;
-    while 0 < i {
-        i = i - 1;
-        v = v * 256 + wide(mem[at + i]);
-    }
-    v
+    wide(mem[at])
 }
 
-// The same for four bytes, as one sum and not by the loop: the compiler joins the loads of the sum into one also where it leaves those
-// of the loop apart.
+pub fn read_2(mem: &[u8], at: usize) -> u64
+    requires { ⌜ at + 2 ≤ length (now mem) ⌝ }
+    ensures { λ r. ⌜ (r ≡ loadOf (now (mem .entry)) at 2) × (r < 256 ^ 2) ⌝ }
+{
+    read_1(mem, at) + read_1(mem, at + 1) * 256
+}
+
 pub fn read_4(mem: &[u8], at: usize) -> u64
     requires { ⌜ at + 4 ≤ length (now mem) ⌝ }
     ensures { λ r. ⌜ (r ≡ loadOf (now (mem .entry)) at 4) × (r < 256 ^ 4) ⌝ }
 {
-    wide(mem[at])
-        + wide(mem[at + 1]) * 256
-        + wide(mem[at + 2]) * 65536
-        + wide(mem[at + 3]) * 16777216
+    read_2(mem, at) + read_2(mem, at + 2) * 65536
 }
 
-// The first n bytes of the part become the bytes of v; the rest stays.
-pub fn write(part: &mut [u8], n: usize, v: u64)
-    requires { ⌜ n ≤ length (now part) ⌝ }
-    ensures { λ _. ⌜ now (part .exit) ≡ bytesOf n v ++ drop n (now (part .entry)) ⌝ }
+pub fn read_8(mem: &[u8], at: usize) -> u64
+    requires { ⌜ at + 8 ≤ length (now mem) ⌝ }
+    ensures { λ r. ⌜ (r ≡ loadOf (now (mem .entry)) at 8) × (r < 256 ^ 8) ⌝ }
 {
-    let mut rest = v;
-    let mut i = 0;
-    while i < n {
-        part[i] = (rest % 256) as u8;
-        rest = rest / 256;
-        i = i + 1;
-    }
+    read_4(mem, at) + read_4(mem, at + 4) * 0x1_0000_0000
 }
 
-// The n bytes at a place become those of v.
-pub fn put(mem: &mut [u8], at: usize, n: usize, v: u64)
-    requires { ⌜ at + n ≤ length (now mem) ⌝ }
-    ensures { λ _. ⌜ now (mem .exit) ≡ storeOf (now (mem .entry)) at n v ⌝ }
+// The first byte of the part becomes the lowest of v, and so for two, four and eight; the rest stays.
+pub fn write_1(part: &mut [u8], v: u64)
+    requires { ⌜ 1 ≤ length (now part) ⌝ }
+    ensures { λ _. ⌜ now (part .exit) ≡ bytesOf 1 v ++ drop 1 (now (part .entry)) ⌝ }
 {
-    write(&mut mem[at..], n, v);
+    part[0] = (v % 256) as u8;
+}
+
+pub fn write_2(part: &mut [u8], v: u64)
+    requires { ⌜ 2 ≤ length (now part) ⌝ }
+    ensures { λ _. ⌜ now (part .exit) ≡ bytesOf 2 v ++ drop 2 (now (part .entry)) ⌝ }
+{
+    write_1(part, v);
+    write_1(&mut part[1..], v / 256);
+}
+
+pub fn write_4(part: &mut [u8], v: u64)
+    requires { ⌜ 4 ≤ length (now part) ⌝ }
+    ensures { λ _. ⌜ now (part .exit) ≡ bytesOf 4 v ++ drop 4 (now (part .entry)) ⌝ }
+{
+    write_2(part, v);
+    write_2(&mut part[2..], v / 65536);
+}
+
+pub fn write_8(part: &mut [u8], v: u64)
+    requires { ⌜ 8 ≤ length (now part) ⌝ }
+    ensures { λ _. ⌜ now (part .exit) ≡ bytesOf 8 v ++ drop 8 (now (part .entry)) ⌝ }
+{
+    write_4(part, v);
+    write_4(&mut part[4..], v / 0x1_0000_0000);
 }

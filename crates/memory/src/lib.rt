@@ -12,20 +12,19 @@ ghost use Rattle.memory.specs.Bytes.{loadOf, storeOf};
 ghost use Rattle.memory.specs.Extend.{extendOf, signExtended};
 ghost use Rattle.memory.specs.Refusal.{refusedOf};
 
-// The two loops over the bytes of an access, and a load of four bytes without a loop.
+// The bytes of an access, by its number of bytes.
 mod bytes;
 
-// The number at a place, its upper bits zero. Here and in `store` each width has its number of bytes written out: so the compiler makes one
-// access of the loop.
+// The number at a place, its upper bits zero.
 pub fn load(mem: &[u8], at: usize, w: Width) -> u64
     requires { ⌜ at + sizeOf w ≤ length (now mem) ⌝ }
     ensures { λ r. ⌜ r ≡ loadOf (now (mem .entry)) at (sizeOf w) ⌝ }
 {
     match w {
-        Width::Byte => bytes::read(mem, at, 1),
-        Width::Half => bytes::read(mem, at, 2),
-        Width::Word => bytes::read(mem, at, 4),
-        Width::Double => bytes::read(mem, at, 8),
+        Width::Byte => bytes::read_1(mem, at),
+        Width::Half => bytes::read_2(mem, at),
+        Width::Word => bytes::read_4(mem, at),
+        Width::Double => bytes::read_8(mem, at),
     }
 }
 
@@ -59,16 +58,16 @@ pub fn extend(w: Width, sign: bool, v: u64) -> u64
     v
 }
 
-// The low bytes of a number, put at a place.
+// The low bytes of a number, put at a place. The byte writer gets the part that starts there, and no byte before it.
 pub fn store(mem: &mut [u8], at: usize, w: Width, v: u64)
     requires { ⌜ at + sizeOf w ≤ length (now mem) ⌝ }
     ensures { λ _. ⌜ now (mem .exit) ≡ storeOf (now (mem .entry)) at (sizeOf w) v ⌝ }
 {
     match w {
-        Width::Byte => bytes::put(mem, at, 1, v),
-        Width::Half => bytes::put(mem, at, 2, v),
-        Width::Word => bytes::put(mem, at, 4, v),
-        Width::Double => bytes::put(mem, at, 8, v),
+        Width::Byte => bytes::write_1(&mut mem[at..], v),
+        Width::Half => bytes::write_2(&mut mem[at..], v),
+        Width::Word => bytes::write_4(&mut mem[at..], v),
+        Width::Double => bytes::write_8(&mut mem[at..], v),
     }
 }
 

@@ -90,6 +90,26 @@ pub fn loads_and_stores() -> Program {
     )
 }
 
+/// A checksum over 64 KiB of data, by loads of eight bytes: eight of them in a turn of the loop, and after the last one from the start again.
+pub fn checksum() -> Program {
+    const DATA: usize = 64 * 1024;
+    let mut code = Vec::new();
+    for k in 0..8 {
+        code.push(load(3, 6, 5, 8 * k));
+        code.push(add(7, 7, 6));
+    }
+    code.push(addi(5, 5, 64));
+    code.push(bne(5, 8, -4 * code.len() as i32));
+    code.push(addi(5, 2, 0));
+    code.push(jal(0, -4 * code.len() as i32));
+    let mut program = bare("eight-byte loads, a checksum", &code);
+    let data = program.hart.x[2];
+    program.hart.x[5] = data;
+    program.hart.x[8] = data + DATA as u64;
+    program.memory.resize(PAGE + DATA, 0x5A);
+    program
+}
+
 /// A call into a function that pushes its return address on both stacks and calls another one that does so too.
 fn calls_code() -> Vec<u32> {
     vec![
@@ -178,5 +198,6 @@ pub fn all() -> Vec<Program> {
         csrs_and_traps(),
         filter::in_machine(),
         filter::in_user(),
+        checksum(),
     ]
 }

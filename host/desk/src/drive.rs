@@ -2,16 +2,18 @@
 //! state before the last step found again, so that it can be explained.
 
 use crate::environment::{Environment, Served, Write};
-use crate::explain;
 use crate::failure::Failure;
 use crate::map::PageMap;
 use crate::notes::Watch;
 use crate::past::Past;
+use crate::profile::{Counts, Made, Profile};
 use crate::progress::Progress;
 use crate::refusal;
 use crate::state::State;
+use crate::steps::{Before, Show, Shown};
+use crate::symbols::{Place, Symbols};
+use crate::window::{Start, Window};
 use sporhulma::{Answer, Hart, MOST_STEPS};
-use std::ops::Range;
 
 /// How far to go.
 #[derive(Clone, Copy)]
@@ -47,26 +49,13 @@ pub struct End {
     /// The state before the last step; none if there was no step.
     pub before: Option<State>,
     pub after: State,
+    /// How many steps were shown.
+    pub shown: u64,
     /// What was seen of the protections that are on.
     pub watch: Watch,
+    /// Where the steps were made, if that was asked for.
+    pub profile: Option<Counts>,
     pub environment: Environment,
-}
-
-/// One step of a trace.
-pub struct Step<'a> {
-    pub number: u64,
-    pub before: &'a State,
-    pub after: &'a State,
-    pub answer: Answer,
-    /// Where it wrote memory.
-    pub written: Range<usize>,
-}
-
-/// What a trace shows.
-pub enum Shown<'a> {
-    Step(Step<'a>),
-    /// A call was served, and the program goes on from here.
-    Served(&'a State),
 }
 
 /// A run on its way.
@@ -76,11 +65,25 @@ pub struct Drive<'a> {
     limits: Limits,
     count: u64,
     followed: u64,
-    /// Whether the last step took a given word.
-    given: bool,
+    /// The given word that the last call's step took.
+    given: Option<u32>,
+    shown: u64,
     watch: Watch,
+    profile: Option<Profile<'a>>,
     environment: Environment,
 }
+
+/// How far to go at full speed.
+#[derive(Clone, Copy)]
+enum Until {
+    End,
+    /// So many steps from the start of the run.
+    Step(u64),
+    Place(Place),
+}
+
+/// How a run ended: why, the state before the last step, and that step's answer.
+struct Ended(Stop, Option<State>, Answer);
 
 /// What comes after a call.
 enum Next {
@@ -105,84 +108,142 @@ impl<'a> Drive<'a> {
             limits,
             count: 0,
             followed: 0,
-            given: false,
+            given: None,
+            shown: 0,
+            profile: None,
             environment,
         };
         drive.call(0)?;
         Ok(drive)
     }
 
-    /// Runs to the end in as few calls as possible.
-    pub fn run(mut self, progress: &Progress) -> Result<End, Failure> {
-        let mut past = Past::new(&self.state);
-        let (mut told, mut long) = (0, false);
-        while self.left() > 0 {
+    /// Counts where each step is made.
+    pub fn profiled(mut self, symbols: &'a Symbols) -> Drive<'a> {
+        self.profile = Some(Profile::new(&self.state, symbols));
+        self
+    }
+
+    /// Runs to the end: step by step where the window asks for it, and else in as few calls as possible.
+    pub fn run(
+        mut self,
+        window: &Window,
+        progress: &Progress,
+        show: &mut Show,
+    ) -> Result<End, Failure> {
+        let keep = match window {
+            Window::Last(steps) => *steps,
+            _ => 0,
+        };
+        let (until, steps) = match window {
+            Window::From(Start::Step(step), steps) => (Until::Step(*step - 1), *steps),
+            Window::From(Start::Place(_, place), steps) => (Until::Place(*place), *steps),
+            Window::None | Window::Last(_) => (Until::End, 0),
+        };
+        let mut past = Past::new(&self.state, keep);
+        let mut ended = self.go(until, &mut past, progress)?;
+        if ended.is_none() {
+            ended = self.steps(steps, progress, show)?;
+        }
+        if ended.is_none() && self.left() > 0 {
+            past = Past::new(&self.state, 0);
+            ended = self.go(Until::End, &mut past, progress)?;
+        }
+        if keep > 0 {
+            self.shown = past.show(self.map, (&self.state, self.count), show)?;
+        }
+        Ok(self.end(ended))
+    }
+
+    /// Goes on in as few calls as possible, to the end or as far as asked; none where it has not ended there.
+    fn go(
+        &mut self,
+        until: Until,
+        past: &mut Past,
+        progress: &Progress,
+    ) -> Result<Option<Ended>, Failure> {
+        let (mut told, mut long) = (self.count, false);
+        loop {
+            // A profile sees every step; and behind a long call a single step shows whether the hart still moves.
+            let single = long || self.profile.is_some();
+            let most = if single { 1 } else { MOST_STEPS };
+            let most = most.min(self.left()).min(self.up_to(until));
+            if most == 0 {
+                return Ok(None);
+            }
             past.renew(&self.state);
             let hart = self.state.hart;
-            // Behind a long call a single step shows whether the hart still moves.
-            let most = if long { 1 } else { MOST_STEPS };
-            let answer = self.watched(most.min(self.left()))?;
+            let answer = self.watched(most)?;
             long = answer.count == MOST_STEPS;
             past.stepped(answer.count);
             match self.next(&hart, answer)? {
                 Next::On => (),
                 Next::Served(writes) => past.served(&self.state.hart, writes),
                 Next::End(stop) => {
-                    let before = past.before_last(self.map)?;
-                    return Ok(self.end(stop, Some(before), answer));
+                    let before = Some(past.before_last(self.map)?);
+                    return Ok(Some(Ended(stop, before, answer)));
                 }
             }
             if self.count - told >= TOLD {
                 told = self.count;
                 progress.tick(self.count, &self.state);
                 if progress.interrupted() {
-                    return Ok(self.end(Stop::Interrupted, None, NOTHING));
+                    return Ok(Some(Ended(Stop::Interrupted, None, NOTHING)));
                 }
             }
         }
-        Ok(self.end(Stop::Steps, None, NOTHING))
     }
 
-    /// Runs to the end step by step and hands each to `show`.
-    pub fn trace(
-        mut self,
+    /// Goes on step by step, so many at most, and shows each; none where it has not ended then.
+    fn steps(
+        &mut self,
+        most: u64,
         progress: &Progress,
-        show: &mut dyn FnMut(Shown) -> Result<(), Failure>,
-    ) -> Result<End, Failure> {
-        let mut before = self.state.clone();
-        while self.left() > 0 {
-            (before.hart, before.given) = (self.state.hart, self.state.given);
+        show: &mut Show,
+    ) -> Result<Option<Ended>, Failure> {
+        let mut before = Before::new(&self.state);
+        let first = self.count;
+        while self.left() > 0 && self.count - first < most {
+            before.begins(&self.state);
             let answer = self.watched(1)?;
-            let written = explain::written(&before, self.map).filter(|_| !answer.trapped);
-            let written = written.unwrap_or(0..0);
-            let (number, after) = (self.count, &self.state);
-            show(Shown::Step(Step {
-                number,
-                before: &before,
-                after,
-                answer,
-                written: written.clone(),
-            }))?;
-            match self.next(&before.hart, answer)? {
+            before.show(self.count, &self.state, answer, self.map, show)?;
+            self.shown += 1;
+            match self.next(&before.state.hart, answer)? {
                 Next::On => (),
                 Next::Served(writes) => {
                     show(Shown::Served(&self.state))?;
-                    for (at, bytes) in writes {
-                        before.mem[at..at + bytes.len()].copy_from_slice(&bytes);
-                    }
+                    before.served(&writes);
                 }
                 Next::End(stop) => {
-                    self.check_trace(&before, &written)?;
-                    return Ok(self.end(stop, Some(before), answer));
+                    before.check(&self.state)?;
+                    return Ok(Some(Ended(stop, Some(before.state), answer)));
                 }
             }
-            before.mem[written.clone()].copy_from_slice(&self.state.mem[written]);
+            before.ends(&self.state);
             progress.tick(self.count, &self.state);
             if progress.interrupted() {
-                return Ok(self.end(Stop::Interrupted, None, NOTHING));
+                return Ok(Some(Ended(Stop::Interrupted, None, NOTHING)));
             }
         }
-        Ok(self.end(Stop::Steps, None, NOTHING))
+        before.check(&self.state)?;
+        Ok(None)
+    }
+
+    /// How many steps can be made at most in one call without going too far; 0 where it is reached.
+    fn up_to(&mut self, until: Until) -> u64 {
+        match until {
+            Until::End => u64::MAX,
+            Until::Step(count) => count.saturating_sub(self.count),
+            // Where the hart is can be seen between calls only: so it goes no further than is known from the words ahead.
+            Until::Place(place) => {
+                let way = place
+                    .address(self.state.space())
+                    .wrapping_sub(self.state.pc());
+                match way {
+                    0 => 0,
+                    way => self.watch.line(&self.state, self.map).min(way.div_ceil(4)),
+                }
+            }
+        }
     }
 
     /// Steps that may still be made.
@@ -206,7 +267,7 @@ impl<'a> Drive<'a> {
 
     /// One call of the proved run.
     fn call(&mut self, budget: u64) -> Result<Answer, Failure> {
-        self.given = self.state.given.is_some();
+        self.given = self.state.given;
         let answer = self.state.steps(self.map, budget);
         if answer.refusal != 0 {
             let length = self.state.mem.len() as u64;
@@ -220,8 +281,24 @@ impl<'a> Drive<'a> {
 
     /// What comes after a call that began with `hart`.
     fn next(&mut self, hart: &Hart, answer: Answer) -> Result<Next, Failure> {
+        let next = self.decide(hart, answer)?;
+        if let Some(profile) = &mut self.profile {
+            let made = Made {
+                before: hart,
+                after: &self.state,
+                answer,
+                given: self.given,
+                served: matches!(next, Next::Served(_)),
+                last: matches!(next, Next::End(_)),
+            };
+            profile.saw(&made, self.map);
+        }
+        Ok(next)
+    }
+
+    fn decide(&mut self, hart: &Hart, answer: Answer) -> Result<Next, Failure> {
         // A step that fetches is a function of hart, memory and map, and neither a trap nor a step that leaves pc writes memory.
-        let same = answer.count == 1 && !self.given && *hart == self.state.hart;
+        let same = answer.count == 1 && self.given.is_none() && *hart == self.state.hart;
         if answer.trapped {
             match self
                 .environment
@@ -242,20 +319,9 @@ impl<'a> Drive<'a> {
         })
     }
 
-    /// The trace follows memory by what each step is explained to write: that this missed nothing is seen at the end.
-    fn check_trace(&self, before: &State, written: &Range<usize>) -> Result<(), Failure> {
-        let after = &self.state.mem;
-        let same = before.mem[..written.start] == after[..written.start]
-            && before.mem[written.end..] == after[written.end..];
-        match same {
-            true => Ok(()),
-            false => Err(Failure::Tool(
-                "the trace missed a change of memory: a fault of the desk".into(),
-            )),
-        }
-    }
-
-    fn end(self, stop: Stop, before: Option<State>, last: Answer) -> End {
+    /// The end; without one it was the last of the steps.
+    fn end(self, ended: Option<Ended>) -> End {
+        let Ended(stop, before, last) = ended.unwrap_or(Ended(Stop::Steps, None, NOTHING));
         let cause = last.trapped.then_some(last.cause);
         End {
             stop,
@@ -264,7 +330,9 @@ impl<'a> Drive<'a> {
             cause,
             before,
             after: self.state,
+            shown: self.shown,
             watch: self.watch,
+            profile: self.profile.map(Profile::done),
             environment: self.environment,
         }
     }

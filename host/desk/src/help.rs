@@ -67,6 +67,8 @@ A C program in M with its console (docs/C.md is the quick start):
 
 One in user mode under Sv39 with its shadow stack, and its exit value as the status:
   desk run program.elf --user --syscalls --exit-status
+With the steps before its trap, the bytes of a variable, and where its steps were made:
+  desk run program.elf --user --syscalls --trace-last 20 --dump table:64 --profile
 
 Numbers are written as 4096, 0x1000, 0b1000 or 1_000_000. The switches act on top of --csr.
 The same with a map of your own, traced:

@@ -2,7 +2,6 @@
 
 use crate::bits::LPE;
 use crate::drive::{End, Stop};
-use crate::dump;
 use crate::ends;
 use crate::explain::{cause_name, shadow_stack_on, Rows, Trap};
 use crate::facts::{hex, object, Facts};
@@ -10,13 +9,14 @@ use crate::frames::{Scope, Table};
 use crate::hints;
 use crate::names::{mode_name, SP};
 use crate::notes;
+use crate::registers;
 use crate::setup::Job;
 use crate::state::State;
 use crate::symbols::Symbols;
 use crate::text;
 use disasm::register;
 use serde_json::Value;
-use sporhulma::{word, BASE, REST};
+use sporhulma::{word, REST};
 
 /// What is said at the end.
 pub struct Report {
@@ -38,10 +38,11 @@ impl Report {
             _ => None,
         };
         // Where no step was made, nothing could have an effect.
-        let notes = match end.count {
+        let mut notes = match end.count {
             0 => Vec::new(),
             _ => notes::notes(&end.watch),
         };
+        notes.extend(job.window.missed(end));
         let good = ends::as_asked(end, trap.as_ref(), job.expect.as_ref());
         let mut rows = rows(end, job, trap.as_ref());
         rows.extend(notes.iter().map(|note| ("note", note.clone())));
@@ -71,10 +72,7 @@ impl Report {
 
     /// The object that docs/DESK.md describes.
     pub fn json(&self, end: &End, job: &Job) -> Value {
-        let dumps = job
-            .dumps
-            .iter()
-            .map(|&(address, length)| dumped(end, address, length));
+        let dumps = job.dumps.iter().flat_map(|dump| dump.json(end, &job.map));
         let mut members = self.ended(end);
         let start = job.image.start.map_or(Value::Null, hex);
         let image = [
@@ -89,6 +87,7 @@ impl Report {
             let given = [("word", word), ("text", Value::from(text))];
             members.push(("given", object(given)));
         }
+        members.extend(end.profile.iter().map(|counts| ("profile", counts.json())));
         if let Some(layout) = &job.layout {
             let lines = layout.text.lines().map(Value::from);
             members.push(("map", lines.collect()));
@@ -228,13 +227,6 @@ fn trap_json(trap: &Trap) -> Value {
     object(members)
 }
 
-fn dumped(end: &End, address: u64, length: u64) -> Value {
-    let start = (address - BASE) as usize;
-    let bytes = &end.after.mem[start..start + length as usize];
-    let bytes: String = bytes.iter().map(|byte| format!("{byte:02x}")).collect();
-    object([("address", hex(address)), ("bytes", Value::from(bytes))])
-}
-
 /// What the map names, by the hart at the start of the run.
 fn frames(job: &Job) -> Table {
     Table::new(&job.state.hart, job.state.mem.len() as u64, &job.map)
@@ -252,12 +244,15 @@ pub fn tables(end: &End, job: &Job) -> String {
         let scope = Scope::of(&job.state.hart, end.followed);
         text += &format!("\n{}", frames(job).text(&scope));
     }
+    if let Some(counts) = &end.profile {
+        text += &format!("\n{}", counts.text());
+    }
     if job.registers {
         text += "\n";
-        text += &dump::registers(&end.after);
+        text += &registers::table(&end.after);
     }
-    for &(address, length) in &job.dumps {
-        text += &format!("\n{}", dump::memory(&end.after, address, length));
+    for dump in &job.dumps {
+        text += &format!("\n{}", dump.text(end, &job.map, &job.symbols));
     }
     text
 }

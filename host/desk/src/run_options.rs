@@ -5,6 +5,7 @@ use crate::layout::Wish;
 use crate::load::Format;
 use crate::number::{number, size};
 use crate::refusal;
+use crate::window;
 use clap::builder::{NonEmptyStringValueParser, PossibleValuesParser, TypedValueParser};
 use clap::{Args, ValueEnum};
 
@@ -56,11 +57,21 @@ pub struct RunOptions {
     pub strict: bool,
     #[arg(long, help = "write each step: address, word, text, what changed")]
     pub trace: bool,
+    #[arg(long, value_name = "WHERE|STEP", value_parser = some_text(), help = "begin the trace at the first step at a symbol (main, main+8) or at an address of the program (v:0x10164), or with the step of this number")]
+    pub trace_from: Option<String>,
+    #[arg(long, value_name = "N", value_parser = window::steps, help = "end the trace after N steps; the run goes on")]
+    pub trace_steps: Option<u64>,
+    #[arg(long, value_name = "N", conflicts_with_all = ["trace_from", "trace_steps"], value_parser = window::last, help = "trace the last N steps of the run, at most 100000")]
+    pub trace_last: Option<u64>,
     #[arg(long, value_name = "FILE", value_parser = some_text(), help = "write the trace there and not to the output")]
     pub trace_to: Option<String>,
+    #[arg(long, help = "say in which functions the steps were made")]
+    pub profile: bool,
+    #[arg(long, value_name = "FILE", value_parser = some_text(), help = "draw the profile there, as a flame graph (SVG)")]
+    pub profile_svg: Option<String>,
     #[arg(long, help = "show all registers and CSRs at the end")]
     pub registers: bool,
-    #[arg(long, value_name = "ADDRESS:LENGTH", value_parser = some_text(), help = "show bytes of memory at the end (physical address); any number of times")]
+    #[arg(long, value_name = "WHERE:LENGTH", value_parser = some_text(), help = "show bytes of memory at the end; WHERE is a physical address (0x80001000), one of the program (v:0x20000) or a symbol (table, table+8); any number of times")]
     pub dump: Vec<String>,
     #[arg(long, value_name = "FILE", value_parser = some_text(), help = "write all of memory there at the end")]
     pub save: Option<String>,
@@ -109,6 +120,18 @@ impl RunOptions {
         }
     }
 
+    /// The option by which a trace is asked for, if one is.
+    pub fn traces(&self) -> Option<&'static str> {
+        let asked = [
+            (self.trace, "--trace"),
+            (self.trace_from.is_some(), "--trace-from"),
+            (self.trace_steps.is_some(), "--trace-steps"),
+            (self.trace_last.is_some(), "--trace-last"),
+            (self.trace_to.is_some(), "--trace-to"),
+        ];
+        asked.iter().find(|asked| asked.0).map(|asked| asked.1)
+    }
+
     /// Whether the options go together.
     pub fn agree(&self) -> Result<(), Failure> {
         let map = self.map_wish();
@@ -127,9 +150,9 @@ impl RunOptions {
             let wrong = "it tells what the map's entries name, and no map is given; add --map FILE";
             return Err(Failure::at("--frames", wrong));
         }
-        if self.trace && self.json && self.trace_to.is_none() {
+        if let (Some(option), true, None) = (self.traces(), self.json, &self.trace_to) {
             let wrong = "with --json the trace needs a place of its own; add --trace-to FILE";
-            return Err(Failure::at("--trace", wrong));
+            return Err(Failure::at(option, wrong));
         }
         Ok(())
     }

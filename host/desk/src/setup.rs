@@ -1,20 +1,21 @@
 //! From the options of `desk run` to what is run: the state at the start, the map, the limits, the outputs.
 
 use crate::drive::Limits;
+use crate::dump::Dump;
 use crate::environment::Services;
 use crate::failure::Failure;
 use crate::image;
 use crate::layout::Layout;
 use crate::load::{self, load, Image, Loaded};
 use crate::map::PageMap;
-use crate::number::{number, size};
 use crate::output::{self, Output};
 use crate::run_options::{Expect, RunOptions, Wanted};
 use crate::start::{self, hart, pc};
 use crate::state::State;
 use crate::symbols::Symbols;
+use crate::window::{Start, Window};
 use crate::words;
-use sporhulma::{word, Hart, BASE};
+use sporhulma::{word, Hart};
 
 /// All that `desk run` was asked to do.
 pub struct Job {
@@ -33,10 +34,14 @@ pub struct Job {
     pub exit_status: bool,
     /// Whether a note is an end that was not asked for.
     pub strict: bool,
-    pub trace: bool,
+    /// Which steps are traced.
+    pub window: Window,
     pub trace_to: Option<Output>,
+    /// Whether the steps are counted by function.
+    pub profile: bool,
+    pub profile_svg: Option<Output>,
     pub registers: bool,
-    pub dumps: Vec<(u64, u64)>,
+    pub dumps: Vec<Dump>,
     pub save: Option<Output>,
     /// Whether the frames that the map names are to be told.
     pub frames: bool,
@@ -53,50 +58,46 @@ impl Job {
             layout,
             symbols,
         } = load(options)?;
-        let state = state(options, &image, mem, layout.as_ref())?;
-        let limits = Limits {
-            steps: options.steps,
-            follow: options.follow,
-        };
+        let user = layout.as_ref().filter(|_| options.user);
+        let hart = started(options, &image, user)?;
+        let given = given(options, hart.rest[word::PC])?;
         let symbols = match &options.symbols {
             Some(path) => load::symbols(path)?,
             None => symbols,
         };
         Ok(Job {
+            dumps: dumps(options, &symbols)?,
+            window: window(options, &symbols)?,
             symbols,
             user: options.user,
             map,
             layout,
-            dumps: dumps(options)?,
             expect: options.expect.clone(),
             services: services(options)?,
             exit_status: options.exit_status,
             strict: options.strict,
-            trace: options.trace || options.trace_to.is_some(),
             trace_to: output(options, "--trace-to", &options.trace_to)?,
+            profile: options.profile || options.profile_svg.is_some(),
+            profile_svg: output(options, "--profile-svg", &options.profile_svg)?,
             registers: options.registers,
             save: output(options, "--save", &options.save)?,
             frames: options.frames,
             json: options.json,
+            state: State { hart, mem, given },
+            limits: Limits {
+                steps: options.steps,
+                follow: options.follow,
+            },
             image,
-            state,
-            limits,
         })
     }
 }
 
-/// The state at the start.
-fn state(
-    options: &RunOptions,
-    image: &Image,
-    mem: Vec<u8>,
-    layout: Option<&Layout>,
-) -> Result<State, Failure> {
-    let user = layout.filter(|_| options.user);
+/// The hart at the start, for `--user` that of a user program.
+fn started(options: &RunOptions, image: &Image, user: Option<&Layout>) -> Result<Hart, Failure> {
     let mut hart = hart(user.map_or_else(Hart::fresh, start::user), &options.start)?;
     hart.rest[word::PC] = pc(&options.start, image)?.unwrap_or(hart.rest[word::PC]);
-    let given = given(options, hart.rest[word::PC])?;
-    Ok(State { hart, mem, given })
+    Ok(hart)
 }
 
 /// The word that the first step takes, if one is given; what it says of targets is from pc on.
@@ -139,42 +140,39 @@ fn output(
     option: &str,
     path: &Option<String>,
 ) -> Result<Option<Output>, Failure> {
-    let trace = options.trace_to.as_deref();
+    let (trace, save) = (options.trace_to.as_deref(), options.save.as_deref());
     let others = [
         ("the image", Some(options.image.as_str())),
         ("the page map", options.map_file()),
         ("the file of symbols", options.symbols.as_deref()),
         ("the trace", trace.filter(|_| option != "--trace-to")),
+        (
+            "the saved memory",
+            save.filter(|_| option == "--profile-svg"),
+        ),
     ];
     output::asked(option, path.as_deref(), &others)
 }
 
+/// Which steps are traced.
+fn window(options: &RunOptions, symbols: &Symbols) -> Result<Window, Failure> {
+    let wrong = |wrong: String| Failure::at("--trace-from", wrong);
+    match (options.traces(), options.trace_last, &options.trace_from) {
+        (None, ..) => Ok(Window::None),
+        (_, Some(steps), _) => Ok(Window::Last(steps)),
+        (.., from) => {
+            let from = from.as_deref().unwrap_or("1");
+            let start = Start::parse(from, symbols).map_err(wrong)?;
+            Ok(Window::From(start, options.trace_steps.unwrap_or(u64::MAX)))
+        }
+    }
+}
+
 /// The stretches of memory that are shown at the end.
-fn dumps(options: &RunOptions) -> Result<Vec<(u64, u64)>, Failure> {
+fn dumps(options: &RunOptions, symbols: &Symbols) -> Result<Vec<Dump>, Failure> {
     let wrong = |wrong: String| Failure::at("--dump", wrong);
     let dumps = options.dump.iter();
     dumps
-        .map(|value| dump(value, options.memory).map_err(wrong))
+        .map(|asked| Dump::parse(asked, options.memory, symbols).map_err(wrong))
         .collect()
-}
-
-/// A stretch of memory: ADDRESS:LENGTH, all of it in memory.
-fn dump(value: &str, memory: u64) -> Result<(u64, u64), String> {
-    let Some((address, length)) = value.split_once(':') else {
-        return Err(format!(
-            "'{value}' has no ':'; write for instance 0x80001000:64"
-        ));
-    };
-    let (address, length) = (number(address)?, size(length)?);
-    let end = BASE + memory;
-    if length == 0 {
-        Err(format!("'{value}' has length 0; try 1 or more"))
-    } else if address < BASE || address >= end || length > end - address {
-        let last = end - 1;
-        Err(format!(
-            "{value} is not all in memory, which is {BASE:#x} to {last:#x}"
-        ))
-    } else {
-        Ok((address, length))
-    }
 }

@@ -7,6 +7,7 @@ use crate::elf::{Elf, Segment};
 use crate::facts::Facts;
 use crate::failure::Failure;
 use crate::names::nearest;
+use crate::number::number;
 use addr2line::gimli::{EndianRcSlice, RunTimeEndian};
 use addr2line::Context;
 use object::{Object, ObjectSymbol, SymbolKind, SymbolSection};
@@ -17,12 +18,29 @@ use std::path::{Path, PathBuf};
 const CALL: u64 = 4;
 
 /// Which addresses are meant.
-#[derive(Clone, Copy, Debug, PartialEq)]
+#[derive(Clone, Copy, Debug, PartialEq, Eq, Hash)]
 pub enum Space {
     /// Those of the program, translated by the map.
     Virtual,
     /// Those of memory.
     Physical,
+}
+
+/// A place of the program. Where the hart does not translate, a symbol lies where its segment was put; an address is what it is.
+#[derive(Clone, Copy, Debug, PartialEq)]
+pub struct Place {
+    /// As the program sees it.
+    pub seen: u64,
+    pub physical: u64,
+}
+
+impl Place {
+    pub fn address(self, space: Space) -> u64 {
+        match space {
+            Space::Virtual => self.seen,
+            Space::Physical => self.physical,
+        }
+    }
 }
 
 /// A symbol, and how far behind its address another lies.
@@ -166,9 +184,30 @@ impl Symbols {
         name.map_or(Value::Null, |name| Value::from(name.to_string()))
     }
 
+    /// A place of the program: v: and an address, a symbol, or a symbol, + and how far behind it.
+    pub fn place(&self, text: &str) -> Result<Place, String> {
+        if let Some(address) = text.strip_prefix("v:") {
+            let address = number(address)?;
+            return Ok(Place {
+                seen: address,
+                physical: address,
+            });
+        }
+        let (name, offset) = match text.rsplit_once('+') {
+            Some((name, offset)) => (name, number(offset)?),
+            None => (text, 0),
+        };
+        let seen = self.address(name)?;
+        let segment = self.segment(seen);
+        let physical = segment.map_or(seen, |segment| seen - segment.address + segment.physical);
+        match (seen.checked_add(offset), physical.checked_add(offset)) {
+            (Some(seen), Some(physical)) => Ok(Place { seen, physical }),
+            _ => Err(format!("{text} lies past the last address; give less")),
+        }
+    }
+
     /// The virtual address of a symbol.
-    #[cfg_attr(not(test), allow(dead_code))] // for options that take a symbol
-    pub fn address(&self, name: &str) -> Result<u64, String> {
+    fn address(&self, name: &str) -> Result<u64, String> {
         let all = || self.sized.iter().chain(&self.labels);
         let mut found: Vec<u64> = all()
             .filter(|symbol| symbol.name == name)

@@ -1,11 +1,11 @@
 //! The trace: a line a step with its number, mode, address, word, text and what it changed, and where functions and lines of source
 //! are known, a line where another begins.
 
-use crate::drive::Step;
 use crate::explain::cause_name;
 use crate::map::PageMap;
 use crate::names::mode_name;
 use crate::state::State;
+use crate::steps::Step;
 use crate::symbols::Symbols;
 use crate::text::wrapped;
 use disasm::register;
@@ -13,6 +13,9 @@ use sporhulma::{word, BASE, REST};
 
 /// Where the column of changes begins: behind the widths that `line` gives the others.
 const CHANGES: usize = 68;
+
+/// The width of a step's number, where it is not longer.
+const NUMBER: usize = 7;
 
 /// A trace on its way: what the addresses are called, and where the step before was.
 pub struct Trace<'a> {
@@ -59,8 +62,10 @@ impl<'a> Trace<'a> {
             Err(_) => ("--------".into(), "(no word can be fetched)".into()),
         };
         let mode = mode_name(before.mode());
-        let head = format!("{:>7} {mode} {pc:#018x} {bits}  {text:<28} ", step.number);
-        wrapped(&head, changes(step, self.symbols), CHANGES)
+        let number = format!("{:>NUMBER$}", step.number);
+        let head = format!("{number} {mode} {pc:#018x} {bits}  {text:<28} ");
+        let column = CHANGES + number.len() - NUMBER;
+        wrapped(&head, changes(step, self.symbols), column)
             .trim_end()
             .to_string()
             + "\n"

@@ -6,7 +6,7 @@ use common::*;
 use std::io::Read;
 use std::process::{Child, Command, Stdio};
 use std::thread::sleep;
-use std::time::Duration;
+use std::time::{Duration, Instant};
 
 #[test]
 fn without_steps_a_run_goes_on_to_a_trap() {
@@ -76,12 +76,38 @@ fn a_hart_that_stands_still_is_an_end() {
     );
 }
 
-/// Presses Ctrl-C once the program has had time to begin.
-fn press(child: &Child) {
-    sleep(Duration::from_millis(400));
-    let kill = format!("kill -INT {}", child.id());
-    let pressed = Command::new("sh").args(["-c", &kill]).status();
-    assert!(pressed.unwrap().success());
+/// A program on the desk. What is pressed before the desk watches Ctrl-C is lost, and does not end it: how long it takes to begin depends on the
+/// machine, and is longer under an emulator.
+fn begun(desk: &Desk, arguments: &str, input: Stdio) -> Child {
+    let arguments: Vec<&str> = arguments.split_whitespace().collect();
+    let plain = desk.command(&arguments);
+    Command::new("sh")
+        .args(["-c", "trap '' INT; exec \"$@\"", "sh"])
+        .arg(plain.get_program())
+        .args(plain.get_args())
+        .current_dir(plain.get_current_dir().unwrap())
+        .stdin(input)
+        .stdout(Stdio::piped())
+        .spawn()
+        .unwrap()
+}
+
+/// Presses Ctrl-C every `pause`, until the desk has ended; how it ended, and how often it was pressed.
+fn pressed(child: &mut Child, pause: Duration) -> (Option<i32>, u32) {
+    for times in 1..=60 {
+        sleep(Duration::from_millis(400));
+        let kill = format!("kill -INT {}", child.id());
+        assert!(Command::new("sh").args(["-c", &kill]).status().is_ok());
+        let end = Instant::now() + pause;
+        while Instant::now() < end {
+            if let Some(status) = child.try_wait().unwrap() {
+                return (status.code(), times);
+            }
+            sleep(Duration::from_millis(20));
+        }
+    }
+    child.kill().unwrap();
+    panic!("Ctrl-C did not end it");
 }
 
 /// A loop that never ends, until Ctrl-C ends it with a report.
@@ -95,21 +121,13 @@ fn ctrl_c_ends_a_run_with_its_report() {
     desk.image("p.bin", &words);
     for options in ["", "--json", "--trace-to t.txt"] {
         let arguments = format!("run p.bin --memory 4K {options}");
-        let arguments: Vec<&str> = arguments.split_whitespace().collect();
-        let mut child = desk
-            .command(&arguments)
-            .stdout(Stdio::piped())
-            .spawn()
-            .unwrap();
-        press(&child);
+        let mut child = begun(&desk, &arguments, Stdio::null());
+        // A second one would end the desk at once: time enough for the report.
+        let (status, _) = pressed(&mut child, Duration::from_secs(20));
         let mut out = String::new();
-        child
-            .stdout
-            .take()
-            .unwrap()
-            .read_to_string(&mut out)
-            .unwrap();
-        assert_eq!(child.wait().unwrap().code(), Some(3), "{out}");
+        let mut pipe = child.stdout.take().unwrap();
+        pipe.read_to_string(&mut out).unwrap();
+        assert_eq!(status, Some(3), "{out}");
         match options {
             "--json" => assert!(out.contains("\"stopped\": \"interrupted\""), "{out}"),
             _ => assert!(out.starts_with("Ended by Ctrl-C after "), "{out}"),
@@ -123,14 +141,8 @@ fn a_second_ctrl_c_ends_the_desk() {
     let desk = Desk::new("ctrl-c-twice");
     desk.image("p.bin", &[ECALL, EBREAK]);
     let arguments = "run p.bin --memory 4K --syscalls --x a7=63 --x a1=0x80000100 --x a2=1";
-    let arguments: Vec<&str> = arguments.split_whitespace().collect();
-    let mut child = desk
-        .command(&arguments)
-        .stdin(Stdio::piped())
-        .spawn()
-        .unwrap();
-    press(&child);
-    assert_eq!(child.try_wait().unwrap(), None, "it waits on");
-    press(&child);
-    assert_eq!(child.wait().unwrap().code(), Some(130));
+    let mut child = begun(&desk, arguments, Stdio::piped());
+    let (status, times) = pressed(&mut child, Duration::from_millis(400));
+    assert_eq!(status, Some(130));
+    assert!(times > 1, "the first Ctrl-C ended it");
 }

@@ -162,6 +162,39 @@ fn what_the_word_uses_is_seen() {
     assert_eq!(pushed.status, 0, "{}", pushed.out);
 }
 
+/// Windows of the trace and the profile see the given word as they see a fetched one.
+#[test]
+fn windows_and_the_profile_see_the_word() {
+    let desk = Desk::new("given-window");
+    desk.image("p.bin", &[NOP, ECALL, NOP, ECALL]);
+    let first = "      1 M 0x0000000080000000 008000ef  jal 0x80000008 (given) ";
+    for window in [
+        &["--trace-last", "9"][..],
+        &["--trace-from", "1"],
+        &["--trace-from", "v:0x80000000"],
+    ] {
+        let run = run(&desk, &[&["p.bin", "--word", "jal .+8"], window].concat());
+        assert!(run.out.starts_with(first), "{window:?}: {}", run.out);
+    }
+    let later = run(
+        &desk,
+        &["p.bin", "--word", "jal .+8", "--trace-from", "v:0x80000008"],
+    );
+    assert!(
+        later.out.starts_with("      2 M 0x0000000080000008 "),
+        "{}",
+        later.out
+    );
+    // The given jump is a call: the function that it calls has steps of its own, and is entered.
+    let called = desk.run("run p.bin --word 0x008000ef --profile --expect ecall --json");
+    assert_eq!(called.status, 0, "{}", called.out);
+    let function = "\"address\": \"0x0000000080000008\"";
+    assert!(called.out.contains(function), "{}", called.out);
+    // A jump that keeps no return address is none.
+    let jump = desk.run("run p.bin --word 0x0080006f --profile --expect ecall --json");
+    assert!(!jump.out.contains(function), "{}", jump.out);
+}
+
 #[test]
 fn a_wrong_word_is_refused() {
     let desk = Desk::new("given-wrong");

@@ -110,12 +110,6 @@ fn numbers() {
         ("run ok.bin --semihosting=on", "--semihosting: it takes no value; write it alone"),
         ("run ok.bin --strict --strict", "--strict: it is given twice; give it once"),
         ("run ok.bin --expect 64", "--expect: '64' is no end; write ecall, ebreak, a cause below 64, exit or exit=0"),
-        ("run ok.bin --dump 0x80000000", "--dump: '0x80000000' has no ':'; write for instance 0x80001000:64"),
-        ("run ok.bin --dump x:4", "--dump: 'x' is not a number; write it as 4096, 0x1000 or 0b1000"),
-        ("run ok.bin --dump 0x80000000:0", "--dump: '0x80000000:0' has length 0; try 1 or more"),
-        ("run ok.bin --memory 4K --dump 0x80000ff0:17", "--dump: 0x80000ff0:17 is not all in memory, which is 0x80000000 to 0x80000fff"),
-        ("run ok.bin --dump 0x7fffffff:1", "--dump: 0x7fffffff:1 is not all in memory, which is 0x80000000 to 0x800fffff"),
-        ("run ok.bin --dump 0xffffffffffffffff:2", "--dump: 0xffffffffffffffff:2 is not all in memory, which is 0x80000000 to 0x800fffff"),
     ]);
 }
 

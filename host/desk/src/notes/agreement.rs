@@ -9,6 +9,7 @@ use crate::map::PageMap;
 use crate::progress::Progress;
 use crate::state::State;
 use crate::symbols::Symbols;
+use crate::window::{Start, Window};
 use sporhulma::word;
 
 const MEMORIES: usize = 200;
@@ -87,10 +88,13 @@ fn a_run_sees_what_a_trace_sees() {
                 given: random.pick(&[None, None, Some(word)]),
             };
             let map = map(random);
-            let run = drive(&state, &map).run(&progress).unwrap();
-            let trace = drive(&state, &map)
-                .trace(&progress, &mut |_| Ok(()))
-                .unwrap();
+            let drive = |window: Window| {
+                drive(&state, &map)
+                    .run(&window, &progress, &mut |_| Ok(()))
+                    .unwrap()
+            };
+            let run = drive(Window::None);
+            let trace = drive(Window::From(Start::Step(1), u64::MAX));
             assert_eq!(told(&run.watch), told(&trace.watch), "{hart:x?}");
             assert_eq!(run.after.hart, trace.after.hart);
             let before = |end: &End| end.before.as_ref().map(|state| (state.hart, state.given));

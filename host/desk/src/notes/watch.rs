@@ -170,6 +170,14 @@ impl Watch {
         shadow || pads || map || masking
     }
 
+    /// How many steps surely go from word to word, each at the next address, unless one traps.
+    pub fn line(&mut self, state: &State, map: &PageMap) -> u64 {
+        match self.fetched(state, map).filter(|_| state.given.is_none()) {
+            Some((index, _)) => stretch(&state.mem, index, false),
+            None => 1,
+        }
+    }
+
     /// The word that the next step fetches, and its index in memory.
     pub(super) fn fetched(&mut self, state: &State, map: &PageMap) -> Option<(usize, u32)> {
         let physical = match state.mode() == M || !sv39(&state.hart) {
