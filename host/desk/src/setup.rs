@@ -58,9 +58,7 @@ impl Job {
             layout,
             symbols,
         } = load(options)?;
-        let user = layout.as_ref().filter(|_| options.user);
-        let hart = started(options, &image, user)?;
-        let given = given(options, hart.rest[word::PC])?;
+        let state = started(options, &image, mem, layout.as_ref())?;
         let symbols = match &options.symbols {
             Some(path) => load::symbols(path)?,
             None => symbols,
@@ -83,7 +81,7 @@ impl Job {
             save: output(options, "--save", &options.save)?,
             frames: options.frames,
             json: options.json,
-            state: State { hart, mem, given },
+            state,
             limits: Limits {
                 steps: options.steps,
                 follow: options.follow,
@@ -93,11 +91,18 @@ impl Job {
     }
 }
 
-/// The hart at the start, for `--user` that of a user program.
-fn started(options: &RunOptions, image: &Image, user: Option<&Layout>) -> Result<Hart, Failure> {
+/// The state at the start, for `--user` that of a user program.
+fn started(
+    options: &RunOptions,
+    image: &Image,
+    mem: Vec<u8>,
+    layout: Option<&Layout>,
+) -> Result<State, Failure> {
+    let user = layout.filter(|_| options.user);
     let mut hart = hart(user.map_or_else(Hart::fresh, start::user), &options.start)?;
     hart.rest[word::PC] = pc(&options.start, image)?.unwrap_or(hart.rest[word::PC]);
-    Ok(hart)
+    let given = given(options, hart.rest[word::PC])?;
+    Ok(State { hart, mem, given })
 }
 
 /// The word that the first step takes, if one is given; what it says of targets is from pc on.
