@@ -1,5 +1,6 @@
 //! The command line: the desk's commands with their options, and the help that clap makes of them.
 
+use crate::assemble::AsmOptions;
 use crate::demonstrate::DemoOptions;
 use crate::frames::FramesOptions;
 use crate::help::*;
@@ -29,6 +30,8 @@ pub enum Command {
     Demo(DemoOptions),
     #[command(about = DISASM_ABOUT, after_help = DISASM, override_usage = DISASM_USAGE)]
     Disasm(DisasmOptions),
+    #[command(about = ASM_ABOUT, after_help = ASM, override_usage = ASM_USAGE)]
+    Asm(AsmOptions),
     #[command(about = HEX_ABOUT, after_help = HEX, override_usage = HEX_USAGE)]
     Hex(HexOptions),
 }

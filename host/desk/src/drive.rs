@@ -65,6 +65,8 @@ pub struct Drive<'a> {
     limits: Limits,
     count: u64,
     followed: u64,
+    /// The given word that the last call's step took.
+    given: Option<u32>,
     shown: u64,
     watch: Watch,
     profile: Option<Profile<'a>>,
@@ -106,6 +108,7 @@ impl<'a> Drive<'a> {
             limits,
             count: 0,
             followed: 0,
+            given: None,
             shown: 0,
             profile: None,
             environment,
@@ -200,7 +203,7 @@ impl<'a> Drive<'a> {
         let mut before = Before::new(&self.state);
         let first = self.count;
         while self.left() > 0 && self.count - first < most {
-            before.begins(&self.state.hart);
+            before.begins(&self.state);
             let answer = self.watched(1)?;
             before.show(self.count, &self.state, answer, self.map, show)?;
             self.shown += 1;
@@ -264,8 +267,8 @@ impl<'a> Drive<'a> {
 
     /// One call of the proved run.
     fn call(&mut self, budget: u64) -> Result<Answer, Failure> {
-        let State { hart, mem } = &mut self.state;
-        let answer = sporhulma::run(hart, mem, &self.map.words, budget);
+        self.given = self.state.given;
+        let answer = self.state.steps(self.map, budget);
         if answer.refusal != 0 {
             let length = self.state.mem.len() as u64;
             let words = &self.map.words;
@@ -284,6 +287,7 @@ impl<'a> Drive<'a> {
                 before: hart,
                 after: &self.state,
                 answer,
+                given: self.given,
                 served: matches!(next, Next::Served(_)),
                 last: matches!(next, Next::End(_)),
             };
@@ -293,8 +297,8 @@ impl<'a> Drive<'a> {
     }
 
     fn decide(&mut self, hart: &Hart, answer: Answer) -> Result<Next, Failure> {
-        // A step is a function of hart, memory and map, and neither a trap nor a step that leaves pc writes memory.
-        let same = answer.count == 1 && *hart == self.state.hart;
+        // A step that fetches is a function of hart, memory and map, and neither a trap nor a step that leaves pc writes memory.
+        let same = answer.count == 1 && self.given.is_none() && *hart == self.state.hart;
         if answer.trapped {
             match self
                 .environment

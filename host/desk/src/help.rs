@@ -1,11 +1,12 @@
 //! The words of the help: what clap puts around the options of each command (run_options.rs and the commands' own files).
 
 /// How each command is written.
-const USAGES: [(&str, &str); 6] = [
+const USAGES: [(&str, &str); 7] = [
     ("run", RUN_USAGE),
     ("frames", FRAMES_USAGE),
     ("demo", DEMO_USAGE),
     ("disasm", DISASM_USAGE),
+    ("asm", ASM_USAGE),
     ("hex", HEX_USAGE),
     ("help", "desk help [COMMAND]"),
 ];
@@ -14,6 +15,7 @@ pub const RUN_USAGE: &str = "desk run IMAGE [options]";
 pub const FRAMES_USAGE: &str = "desk frames --map FILE [options]";
 pub const DEMO_USAGE: &str = "desk demo [--svg FILE]";
 pub const DISASM_USAGE: &str = "desk disasm WORD... or desk disasm --image FILE [options]";
+pub const ASM_USAGE: &str = "desk asm TEXT... or desk asm --file FILE [options]";
 pub const HEX_USAGE: &str = "desk hex IMAGE [options]";
 
 /// How a command is written.
@@ -44,6 +46,7 @@ pub const FRAMES_ABOUT: &str =
 pub const DEMO_ABOUT: &str =
     "the incident: one program with the shadow stack off and on, and torque.svg";
 pub const DISASM_ABOUT: &str = "the text of instruction words";
+pub const ASM_ABOUT: &str = "the words of instructions, by the proved writer";
 pub const HEX_ABOUT: &str = "write a raw image as Intel HEX";
 
 /// What stands below the options.
@@ -98,6 +101,13 @@ on, says what happened and draws the curves.";
 pub const DISASM: &str = "\
 Prints a line a word: address, word, text as GNU objdump writes it.
 A WORD is 0x00a00513 or 00a00513.";
+
+pub const ASM: &str = "\
+Prints a word a line, as desk disasm takes it. A TEXT is one instruction as GNU as takes it and as
+desk disasm prints it, with aliases as li, mv, ret, beqz and csrr; # begins a comment:
+  desk asm 'addi a0,a0,-1' 'bnez a0,0x80000000'
+A target is an address, or a distance as .+8; there are no labels. .word N is the word N. The proved
+writer decides what has a word; what has none is refused, with column and what would be right.";
 
 pub const HEX: &str = "\
 Writes a raw image as Intel HEX, which desk run and other tools load back to the same bytes: data

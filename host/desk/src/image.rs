@@ -38,8 +38,26 @@ pub fn raw(path: &str, bytes: Vec<u8>) -> Result<Vec<u8>, Failure> {
 
 /// A text, for instance a page map.
 pub fn text(path: &str) -> Result<String, Failure> {
-    let wrong = |_| Failure::at(path, "it is no text (not UTF-8); give a text file");
-    String::from_utf8(bytes(path)?).map_err(wrong)
+    text_of(path, bytes(path)?)
+}
+
+/// The text that is handed in, for instance through a pipe.
+pub fn standard_input() -> Result<String, Failure> {
+    let place = "the standard input";
+    let wrong = |error| Failure::at(place, format!("it cannot be read: {error}"));
+    let mut bytes = Vec::new();
+    let mut input = std::io::stdin().take(MOST + 1);
+    input.read_to_end(&mut bytes).map_err(wrong)?;
+    text_of(place, bytes)
+}
+
+fn text_of(place: &str, bytes: Vec<u8>) -> Result<String, Failure> {
+    if bytes.len() as u64 > MOST {
+        let wrong = format!("it has more than {MOST} bytes (64M); give a shorter text");
+        return Err(Failure::at(place, wrong));
+    }
+    let wrong = |_| Failure::at(place, "it is no text (not UTF-8); give a text file");
+    String::from_utf8(bytes).map_err(wrong)
 }
 
 /// What a file holds, if that is all of it.

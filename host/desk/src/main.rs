@@ -1,5 +1,6 @@
 //! The desk: the program an engineer uses. `desk help` and docs/DESK.md say what it does.
 
+mod assemble;
 mod bits;
 mod commands;
 mod demonstrate;
@@ -94,6 +95,7 @@ fn command(arguments: &[String], out: &mut dyn Write) -> Result<u8, Failure> {
         Ok(Command::Frames(options)) => frames::run(&options, out),
         Ok(Command::Demo(options)) => demonstrate::run(&options, out),
         Ok(Command::Disasm(options)) => words::run(&options, out),
+        Ok(Command::Asm(options)) => assemble::run(&options, out),
         Ok(Command::Hex(options)) => write::run(&options, out),
         Err(error) if error.kind() == ErrorKind::DisplayHelp => {
             write!(out, "{error}")?;

@@ -1,6 +1,7 @@
 //! Modes, registers and CSRs by the names that an engineer writes.
 
-use disasm::register;
+pub use asm::nearest;
+use disasm::register_number as any_register;
 use sporhulma::{word, REST};
 
 /// The modes' numbers.
@@ -19,11 +20,9 @@ pub fn mode_name(mode: u64) -> &'static str {
     }
 }
 
-/// A register by its ABI name, as x0 to x31, or as fp.
+/// A register that can be set, by its ABI name, as x1 to x31, or as fp.
 pub fn register_number(name: &str) -> Result<usize, String> {
-    let named = |n: &usize| name == register(*n) || name == format!("x{n}");
-    match (0..32).find(named) {
-        _ if name == "fp" => Ok(8),
+    match any_register(name) {
         Some(0) => Err("register zero (x0) is always 0 and cannot be set".into()),
         Some(n) => Ok(n),
         None => Err(format!(
@@ -44,25 +43,5 @@ pub fn csr_index(name: &str) -> Result<usize, String> {
             Some(near) => format!("'{name}' is no CSR of this hart; did you mean {near}?"),
             None => format!("'{name}' is no CSR of this hart; it has {}", csrs.join(" ")),
         }),
-    }
-}
-
-/// The name that is nearest to what was written, if one is near enough to be meant.
-pub fn nearest<'a>(written: &str, names: impl Iterator<Item = &'a str>) -> Option<&'a str> {
-    let likeness = |name: &str| strsim::jaro(written, name);
-    let near = names.max_by(|one, other| likeness(one).total_cmp(&likeness(other)))?;
-    (likeness(near) > 0.8).then_some(near)
-}
-
-#[cfg(test)]
-mod tests {
-    use super::*;
-
-    #[test]
-    fn only_near_names_are_suggested() {
-        let names = ["mtvec", "mepc", "medeleg"];
-        assert_eq!(nearest("mtvce", names.into_iter()), Some("mtvec"));
-        assert_eq!(nearest("cycle", names.into_iter()), None);
-        assert_eq!(nearest("", names.into_iter()), None);
     }
 }

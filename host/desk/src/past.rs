@@ -180,8 +180,8 @@ impl Replay<'_> {
         for _ in unseen..steps {
             let state = &mut self.state;
             let before = self.before.get_or_insert_with(|| Before::new(state));
-            before.begins(&state.hart);
-            let answer = sporhulma::run(&mut state.hart, &mut state.mem, &self.map.words, 1);
+            before.begins(state);
+            let answer = state.steps(self.map, 1);
             if answer.refusal != 0 {
                 return Err(differently());
             }
@@ -206,8 +206,7 @@ impl Replay<'_> {
 fn again(state: &mut State, map: &PageMap, steps: u64) -> Result<(), Failure> {
     let mut left = steps;
     while left > 0 {
-        let State { hart, mem } = state;
-        let answer = sporhulma::run(hart, mem, &map.words, left.min(MOST_STEPS));
+        let answer = state.steps(map, left.min(MOST_STEPS));
         if answer.refusal != 0 {
             return Err(differently());
         }

@@ -82,6 +82,11 @@ impl Report {
         members.push(("image", object(image)));
         members.extend(hart_json(end, &job.symbols));
         members.push(("dump", Value::Array(dumps.collect())));
+        if let Some((word, text)) = given(job) {
+            let word = Value::from(format!("{word:#010x}"));
+            let given = [("word", word), ("text", Value::from(text))];
+            members.push(("given", object(given)));
+        }
         members.extend(end.profile.iter().map(|counts| ("profile", counts.json())));
         if let Some(layout) = &job.layout {
             let lines = layout.text.lines().map(Value::from);
@@ -127,11 +132,22 @@ fn rows(end: &End, job: &Job, trap: Option<&Trap>) -> Rows {
         _ => ("next", next(&end.after)),
     });
     rows.extend(start(job).map(|start| ("start", start)));
+    rows.extend(given(job).map(|(word, text)| {
+        let pc = job.state.pc();
+        let place = format!("the first step's word, in place of a fetch at {pc:#x}");
+        ("given", format!("{word:08x}  {text}: {place}"))
+    }));
     rows.extend(user(job));
     let hints = hints::hints(end, trap, job);
     rows.extend(hints.into_iter().map(|hint| ("hint", hint)));
     rows.extend(end.environment.row().map(|calls| ("calls", calls)));
     rows
+}
+
+/// The word of `--word`, and its text.
+fn given(job: &Job) -> Option<(u32, String)> {
+    let word = job.state.given?;
+    Some((word, disasm::text(word, job.state.pc())))
 }
 
 fn hart_json(end: &End, symbols: &Symbols) -> Facts {

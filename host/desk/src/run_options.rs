@@ -39,6 +39,8 @@ pub struct RunOptions {
     pub user: bool,
     #[command(flatten)]
     pub start: StartOptions,
+    #[arg(long, value_name = "WORD|TEXT", value_parser = some_text(), help = "a word that the first step takes and does not fetch: 0xfff50513, or an instruction as desk asm takes it, 'addi a0,a0,-1'")]
+    pub word: Option<String>,
     #[arg(long, value_name = "N", allow_negative_numbers = true, value_parser = number, help = "the most steps, any number (default: on to the program's end; Ctrl-C ends it with a report)")]
     pub steps: Option<u64>,
     #[arg(long, value_name = "N|all", default_value = "0", hide_default_value = true, value_parser = follow, help = "go on after the first N traps, or after all (default 0: stop at the first trap)")]

@@ -14,6 +14,7 @@ use crate::start::{self, hart, pc};
 use crate::state::State;
 use crate::symbols::Symbols;
 use crate::window::{Start, Window};
+use crate::words;
 use sporhulma::{word, Hart};
 
 /// All that `desk run` was asked to do.
@@ -57,8 +58,7 @@ impl Job {
             layout,
             symbols,
         } = load(options)?;
-        let user = layout.as_ref().filter(|_| options.user);
-        let hart = started(options, &image, user)?;
+        let state = started(options, &image, mem, layout.as_ref())?;
         let symbols = match &options.symbols {
             Some(path) => load::symbols(path)?,
             None => symbols,
@@ -81,7 +81,7 @@ impl Job {
             save: output(options, "--save", &options.save)?,
             frames: options.frames,
             json: options.json,
-            state: State { hart, mem },
+            state,
             limits: Limits {
                 steps: options.steps,
                 follow: options.follow,
@@ -91,11 +91,25 @@ impl Job {
     }
 }
 
-/// The hart at the start, for `--user` that of a user program.
-fn started(options: &RunOptions, image: &Image, user: Option<&Layout>) -> Result<Hart, Failure> {
+/// The state at the start, for `--user` that of a user program.
+fn started(
+    options: &RunOptions,
+    image: &Image,
+    mem: Vec<u8>,
+    layout: Option<&Layout>,
+) -> Result<State, Failure> {
+    let user = layout.filter(|_| options.user);
     let mut hart = hart(user.map_or_else(Hart::fresh, start::user), &options.start)?;
     hart.rest[word::PC] = pc(&options.start, image)?.unwrap_or(hart.rest[word::PC]);
-    Ok(hart)
+    let given = given(options, hart.rest[word::PC])?;
+    Ok(State { hart, mem, given })
+}
+
+/// The word that the first step takes, if one is given; what it says of targets is from pc on.
+fn given(options: &RunOptions, pc: u64) -> Result<Option<u32>, Failure> {
+    let word = options.word.as_deref().map(|text| words::given(text, pc));
+    word.transpose()
+        .map_err(|wrong| Failure::at("--word", wrong))
 }
 
 /// What serves the program's calls: something must, where its exit is waited for.

@@ -4,13 +4,15 @@ use crate::map::PageMap;
 use crate::names::{mode_name, M};
 use crate::place::{follow, Access, Kind, Path};
 use crate::symbols::{Space, Symbols};
-use sporhulma::{word, Hart, BASE};
+use sporhulma::{word, Answer, Hart, BASE};
 
 /// A hart and its memory at one moment.
 #[derive(Clone)]
 pub struct State {
     pub hart: Hart,
     pub mem: Vec<u8>,
+    /// A word that the next step takes and does not fetch (`--word`).
+    pub given: Option<u32>,
 }
 
 impl State {
@@ -30,6 +32,15 @@ impl State {
         }
     }
 
+    /// Steps of the proved hart in one call: the given word's alone, or as many as the budget and the first trap allow.
+    pub fn steps(&mut self, map: &PageMap, budget: u64) -> Answer {
+        let given = self.given.take_if(|_| budget > 0);
+        match given {
+            Some(word) => sporhulma::step_word(&mut self.hart, &mut self.mem, &map.words, word),
+            None => sporhulma::run(&mut self.hart, &mut self.mem, &map.words, budget),
+        }
+    }
+
     /// How an access would go.
     pub fn path(&self, map: &PageMap, access: Access) -> Path {
         follow(&self.hart, self.mem.len() as u64, map, access)
@@ -45,8 +56,11 @@ impl State {
         self.path(map, fetch)
     }
 
-    /// The word that the next step fetches, or the path of the fetch that is refused.
+    /// The word that the next step takes, or the path of the fetch that is refused.
     pub fn next_word(&self, map: &PageMap) -> Result<u32, Box<Path>> {
+        if let Some(word) = self.given {
+            return Ok(word);
+        }
         let path = self.fetch(map);
         match path.end {
             Ok(physical) => Ok(self.bytes(physical, 4) as u32),
@@ -66,7 +80,11 @@ impl State {
         let place = symbols.told(self.pc(), self.space());
         let at = format!("{place} in {}", mode_name(self.mode()));
         match self.next_word(map) {
-            Ok(word) => format!("{at}: {word:08x}  {}", disasm::text(word, self.pc())),
+            Ok(word) => {
+                let text = disasm::text(word, self.pc());
+                let given = self.given.map_or("", |_| " (given, not fetched)");
+                format!("{at}: {word:08x}  {text}{given}")
+            }
             Err(_) => format!("{at}: no word can be fetched there"),
         }
     }

@@ -5,7 +5,7 @@ use crate::explain;
 use crate::failure::Failure;
 use crate::map::PageMap;
 use crate::state::State;
-use sporhulma::{Answer, Hart};
+use sporhulma::Answer;
 use std::ops::Range;
 
 /// One step of a trace.
@@ -42,9 +42,10 @@ impl Before {
         }
     }
 
-    /// The hart as it is before the next step.
-    pub fn begins(&mut self, hart: &Hart) {
-        self.state.hart = *hart;
+    /// The hart as it is before the next step, and the word that is given for it.
+    pub fn begins(&mut self, state: &State) {
+        self.state.hart = state.hart;
+        self.state.given = state.given;
     }
 
     /// Shows the step that was made since.

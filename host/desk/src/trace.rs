@@ -55,7 +55,10 @@ impl<'a> Trace<'a> {
         let before = step.before;
         let pc = before.pc();
         let (bits, text) = match before.next_word(self.map) {
-            Ok(word) => (format!("{word:08x}"), disasm::text(word, pc)),
+            Ok(word) => {
+                let given = before.given.map_or("", |_| " (given)");
+                (format!("{word:08x}"), disasm::text(word, pc) + given)
+            }
             Err(_) => ("--------".into(), "(no word can be fetched)".into()),
         };
         let mode = mode_name(before.mode());

@@ -1,4 +1,4 @@
-//! `desk disasm`: the text of words given as arguments or in a raw image.
+//! Words as they are given: `desk disasm`, the text of words given as arguments or in a raw image, and the word of `desk run --word`.
 
 use crate::failure::Failure;
 use crate::image::image;
@@ -22,7 +22,8 @@ pub struct DisasmOptions {
     most: Option<u64>,
 }
 
-fn address(text: &str) -> Result<u64, String> {
+/// The address of an instruction.
+pub fn address(text: &str) -> Result<u64, String> {
     match number(text)? {
         at if at % 4 != 0 => Err(format!(
             "{at:#x} is not a multiple of 4; try {:#x}",
@@ -73,22 +74,36 @@ fn bytes(options: &DisasmOptions) -> Result<Vec<u8>, Failure> {
             let words: Vec<u32> = words
                 .iter()
                 .map(|text| word(text))
-                .collect::<Result<_, _>>()?;
+                .collect::<Result<_, _>>()
+                .map_err(|wrong| Failure::at("disasm", wrong))?;
             Ok(words.into_iter().flat_map(u32::to_le_bytes).collect())
         }
     }
 }
 
 /// A word as a number, or as eight hex digits as objdump prints it.
-fn word(text: &str) -> Result<u32, Failure> {
-    if text.len() == 8 && text.chars().all(|digit| digit.is_ascii_hexdigit()) {
+fn word(text: &str) -> Result<u32, String> {
+    if is_hex(text) {
         return Ok(u32::from_str_radix(text, 16).unwrap_or_default());
     }
-    let wrong = |why: String| Failure::at("disasm", why);
-    let large = |_| {
-        wrong(format!(
-            "{text} has more than 32 bits; a word is at most 0xffffffff"
-        ))
-    };
-    u32::try_from(number(text).map_err(wrong)?).map_err(large)
+    let large = |_| format!("{text} has more than 32 bits; a word is at most 0xffffffff");
+    u32::try_from(number(text)?).map_err(large)
+}
+
+fn is_hex(text: &str) -> bool {
+    text.len() == 8 && text.chars().all(|digit| digit.is_ascii_hexdigit())
+}
+
+/// The word of `--word`: a word as above, or the text of an instruction at `pc`.
+pub fn given(text: &str, pc: u64) -> Result<u32, String> {
+    if is_hex(text) || text.starts_with(|first: char| first.is_ascii_digit()) {
+        return word(text);
+    }
+    match asm::word(text, pc) {
+        Ok(Some(word)) => Ok(word),
+        Ok(None) => {
+            Err("no instruction is given; write it as 'addi a0,a0,-1' or 0xfff50513".into())
+        }
+        Err(wrong) => Err(wrong.to_string()),
+    }
 }

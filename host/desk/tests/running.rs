@@ -289,11 +289,13 @@ fn help_is_there_and_fits_a_page() {
         "help frames",
         "help demo",
         "help disasm",
+        "help asm",
         "help hex",
         "--help",
         "run -h",
         "frames --help",
         "disasm --help",
+        "asm --help",
         "hex --help",
     ] {
         let outcome = desk.run(command);

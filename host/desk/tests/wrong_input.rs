@@ -8,16 +8,16 @@ use common::{refused, Desk, ECALL};
 #[rustfmt::skip]
 fn commands() {
     refused("commands", |_| (), &[
-        ("", "no command is given; write desk run, frames, demo, disasm, hex or help"),
+        ("", "no command is given; write desk run, frames, demo, disasm, asm, hex or help"),
         ("runn ok.bin", "runn: the desk has no such command; did you mean run?"),
-        ("simulate", "simulate: the desk has no such command; the commands are run, frames, demo, disasm, hex and help"),
-        ("help rnu", "rnu: the desk has no such command; the commands are run, frames, demo, disasm, hex and help"),
+        ("simulate", "simulate: the desk has no such command; the commands are run, frames, demo, disasm, asm, hex and help"),
+        ("help rnu", "rnu: the desk has no such command; the commands are run, frames, demo, disasm, asm, hex and help"),
         ("help run demo", "help: 'demo' is not needed; name one command"),
         ("demo now", "demo: 'now' is not needed; write desk demo [--svg FILE]"),
         ("demo --svg", "--svg: its FILE is missing; write --svg FILE"),
         ("--version", "--version: the desk has no such option; 'desk help' lists its commands"),
         ("-v run ok.bin", "-v: the desk has no such option; 'desk help' lists its commands"),
-        ("help --all", "--all: the desk has no such command; the commands are run, frames, demo, disasm, hex and help"),
+        ("help --all", "--all: the desk has no such command; the commands are run, frames, demo, disasm, asm, hex and help"),
         ("run", "run: the image is missing; write desk run IMAGE [options]"),
         ("run ok.bin user.map", "run: 'user.map' is not needed; write desk run IMAGE [options]"),
     ]);
@@ -316,7 +316,7 @@ fn hex_written() {
         ("hex ok.bin -o new.hex --at 0xfffffffd", "--at: 4 bytes from 0xfffffffd on go past 0xffffffff, the last address of Intel HEX; try 0xfffffffc or less"),
         ("hex ok.bin -o new.hex --start 0x100000000", "--start: 0x100000000 has more than 32 bits, the most that Intel HEX can say"),
         ("hex ok.bin --lenght 8", "--lenght: 'desk hex' has no such option; did you mean --length?"),
-        ("hxe ok.bin", "hxe: the desk has no such command; the commands are run, frames, demo, disasm, hex and help"),
+        ("hxe ok.bin", "hxe: the desk has no such command; the commands are run, frames, demo, disasm, asm, hex and help"),
     ]);
     let desk = Desk::new("hex-written-kept");
     desk.image("ok.bin", &[ECALL]);

@@ -1,9 +1,10 @@
 //! Writers and readers with one thing wrong, each planted in a wrapper of the proved ones: the eights and the words' round trip must
 //! find it.
 
+use differ::eights::make::make;
 use differ::eights::soak::Eights;
-use differ::eights::{round, Numbers, Scribe};
-use differ::simulator::Proved;
+use differ::eights::{agrees, round, Numbers, Scribe};
+use differ::simulator::{Proved, Second};
 use sporhulma::number::{FAMILY, FIRST, IMMEDIATE, OPERATION, RD, RS1, RS2, SECOND};
 
 /// Within so many eights each slip must be found.
@@ -79,6 +80,15 @@ fn each_slip_is_found() {
     }
 }
 
+/// The second writer alone finds each slip too.
+#[test]
+fn each_slip_differs_from_the_second_writer() {
+    for (name, slip) in SLIPS {
+        let found = (0..EIGHTS).any(|number| !agrees(&Impostor(slip), &make(1, number).1));
+        assert!(found, "not found: {name}");
+    }
+}
+
 #[test]
 fn the_proved_one_has_none_and_the_eights_have_everything() {
     let mut eights = Eights::new(Proved, 1);
@@ -87,9 +97,20 @@ fn the_proved_one_has_none_and_the_eights_have_everything() {
     assert_eq!(eights.complaints(), Vec::<String>::new());
 }
 
+/// The second simulator's own reader and writer.
+#[test]
+fn the_second_one_has_none() {
+    let mut eights = Eights::new(Second, 2);
+    (0..100_000).for_each(|_| eights.next());
+    assert_eq!(eights.failures, Vec::<String>::new());
+    for word in (0..1 << 20).map(|n: u32| n.wrapping_mul(0x9E37_79B1) | 3) {
+        assert_eq!(round(&Second, word, second::family(word)), None);
+        assert_eq!(round(&Proved, word, second::family(word)), None);
+    }
+}
+
 #[test]
 fn an_eight_is_made_again() {
-    use differ::eights::make::make;
     assert_eq!(make(3, 5), make(3, 5));
     assert_ne!(make(3, 5), make(3, 6));
     assert_ne!(make(3, 5), make(4, 5));

@@ -14,7 +14,7 @@
 //!   calls `ssrdp zero`, is `mop.r.28 zero,zero` here, since document 01 lets it read nothing; and
 //!   `ssamoswap.w`, which 2.44 knows for RV32 only, is spelled as `ssamoswap.d` is.
 //!
-//! GNU as reads each text back to its word, with these exceptions: what 2.40 does not know; a fence
+//! `host/asm` reads each text back to its word. So does GNU as, with these exceptions: what 2.40 does not know; a fence
 //! with an empty set, which objdump calls `unknown` and so do we; and a jump or branch target,
 //! which as takes as a distance (`.+8`) only. `tools/outside` checks all of this with 2.40; the
 //! spelling of 2.44 was compared once, by hand, over the same words.
@@ -25,7 +25,7 @@ mod names;
 mod system;
 
 pub use fields::Word;
-pub use names::{csr_name, register};
+pub use names::{csr_address, csr_name, csr_names, register, register_number};
 
 /// The text of `word`, standing at `pc` (only jumps and branches depend on `pc`).
 ///

@@ -37,3 +37,29 @@ pub fn csr_name(address: u16) -> Option<&'static str> {
     let at = CSRS.binary_search_by_key(&address, |csr| csr.0).ok()?;
     Some(CSRS[at].1)
 }
+
+/// The register of an ABI name, of x0 to x31, or of fp.
+pub fn register_number(name: &str) -> Option<usize> {
+    let numbered = || {
+        let n = name.strip_prefix('x')?.parse().ok()?;
+        (n < REGISTERS.len() && name == format!("x{n}")).then_some(n)
+    };
+    match name {
+        "fp" => Some(8),
+        _ => REGISTERS
+            .iter()
+            .position(|known| *known == name)
+            .or_else(numbered),
+    }
+}
+
+/// The address of the hart's CSR of this name.
+pub fn csr_address(name: &str) -> Option<u16> {
+    let csr = CSRS.iter().find(|csr| csr.1 == name)?;
+    Some(csr.0)
+}
+
+/// The names of the hart's CSRs, by address.
+pub fn csr_names() -> impl Iterator<Item = &'static str> {
+    CSRS.iter().map(|csr| csr.1)
+}

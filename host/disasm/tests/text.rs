@@ -1,7 +1,7 @@
 //! Texts written by hand, with words taken from the manuals' tables and from document 01, not from
 //! the code. What GNU objdump and as say of many thousands of words is checked by `tools/outside`.
 
-use disasm::{csr_name, register, text};
+use disasm::{csr_address, csr_name, csr_names, register, register_number, text};
 
 const PC: u64 = 0x8000_0000;
 
@@ -247,4 +247,22 @@ fn every_register_and_csr_has_its_name() {
                     satp=0x180 mstatus=0x300 medeleg=0x302 mtvec=0x305 menvcfg=0x30a mscratch=0x340 mepc=0x341 \
                     mcause=0x342 mtval=0x343 mseccfg=0x747";
     assert_eq!(csrs.join(" "), expected);
+}
+
+#[test]
+fn registers_and_csrs_are_found_by_their_names() {
+    for n in 0..32 {
+        assert_eq!(register_number(register(n)), Some(n));
+        assert_eq!(register_number(&format!("x{n}")), Some(n));
+    }
+    assert_eq!(register_number("fp"), Some(8));
+    for name in ["", "x", "x32", "x01", "x+1", "a8", "A0", "s12", "zero "] {
+        assert_eq!(register_number(name), None, "{name}");
+    }
+    for name in csr_names() {
+        let address = csr_address(name).expect(name);
+        assert_eq!(csr_name(address), Some(name));
+    }
+    assert_eq!(csr_names().count(), 18);
+    assert_eq!(csr_address("cycle"), None);
 }

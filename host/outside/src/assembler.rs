@@ -12,6 +12,7 @@ use crate::gnu;
 use crate::objdump::unknown_to_gnu;
 use crate::report::Report;
 use crate::words::{sample, BASE};
+use std::collections::BTreeSet;
 
 const AS: [&str; 4] = [
     "-march=rv64im_zicsr_zbb",
@@ -52,7 +53,7 @@ pub fn compare(seed: u64) -> Result<u64, String> {
 }
 
 /// Why as of binutils 2.40 cannot read the text; none if it can.
-fn unreadable(text: &str) -> Option<&'static str> {
+pub fn unreadable(text: &str) -> Option<&'static str> {
     let name = text.split(' ').next().unwrap_or("");
     let uses = |wanted| text.split([' ', ',']).any(|operand| operand == wanted);
     match name {
@@ -66,7 +67,7 @@ fn unreadable(text: &str) -> Option<&'static str> {
 }
 
 /// The text of `word` at `pc`, with a jump or branch target as a distance.
-fn text(word: u32, pc: u64) -> String {
+pub fn text(word: u32, pc: u64) -> String {
     let text = disasm::text(word, pc);
     if !matches!(word & 0x7f, 0x63 | 0x6f) || text.starts_with(".word") {
         return text;
@@ -80,7 +81,7 @@ fn text(word: u32, pc: u64) -> String {
 }
 
 /// The words that as and ld make of the texts, one each.
-fn assembled(texts: &[String]) -> Result<Vec<u32>, String> {
+pub fn assembled(texts: &[String]) -> Result<Vec<u32>, String> {
     let [source, object, linked, image] =
         ["words.s", "words.o", "words.elf", "words-back.bin"].map(gnu::file);
     let (source, object, linked, image) = (source?, object?, linked?, image?);
@@ -122,19 +123,8 @@ fn assembled(texts: &[String]) -> Result<Vec<u32>, String> {
 
 /// Checks that as refuses the text of each of the words.
 fn refused(report: &mut Report, words: &[u32], seed: u64) -> Result<(), String> {
-    let source = gnu::file("refused.s")?;
     let texts: Vec<_> = words.iter().map(|&word| text(word, BASE)).collect();
-    gnu::write(&source, (texts.join("\n") + "\n").as_bytes())?;
-    let said = gnu::run(
-        "as",
-        &[&AS[..], &["-o", "/dev/null", &source.display().to_string()]].concat(),
-    )?;
-    let start = format!("{}:", source.display());
-    let lines: std::collections::BTreeSet<usize> = said
-        .errors
-        .lines()
-        .filter_map(|line| line.strip_prefix(&start)?.split(':').next()?.parse().ok())
-        .collect();
+    let lines = refused_lines(&texts)?;
     for (place, (word, text)) in words.iter().zip(&texts).enumerate() {
         match lines.contains(&(place + 1)) {
             true => report.count(format!(
@@ -147,6 +137,19 @@ fn refused(report: &mut Report, words: &[u32], seed: u64) -> Result<(), String> 
         }
     }
     Ok(())
+}
+
+/// The numbers, from 1, of the lines that as refuses.
+pub fn refused_lines(texts: &[String]) -> Result<BTreeSet<usize>, String> {
+    let source = gnu::file("refused.s")?;
+    gnu::write(&source, (texts.join("\n") + "\n").as_bytes())?;
+    let said = gnu::run(
+        "as",
+        &[&AS[..], &["-o", "/dev/null", &source.display().to_string()]].concat(),
+    )?;
+    let start = format!("{}:", source.display());
+    let number = |line: &str| line.strip_prefix(&start)?.split(':').next()?.parse().ok();
+    Ok(said.errors.lines().filter_map(number).collect())
 }
 
 #[cfg(test)]

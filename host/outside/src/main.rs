@@ -1,9 +1,10 @@
-//! `tools/outside`: the hart, its disassembler, its loader of Intel HEX and the desk's environment
-//! against what none of us wrote: QEMU, GNU binutils, srecord, and C programs by GCC and clang.
+//! `tools/outside`: the hart, its disassembler and assembler, its loader of Intel HEX and the desk's
+//! environment against what none of us wrote: QEMU, GNU binutils, srecord, and C programs by GCC and clang.
 //!
 //! This file reads the command line, runs the comparisons that were asked for and turns what they
 //! found into an exit status.
 
+mod asm_lines;
 mod assembler;
 mod c;
 mod encode;
@@ -25,12 +26,13 @@ use report::say;
 use std::process::ExitCode;
 
 const HELP: &str = "\
-tools/outside [COMPARISON] [OPTION ..]: the hart, its disassembler, its loader of Intel HEX and the desk's
-environment against QEMU, GNU binutils and srecord
+tools/outside [COMPARISON] [OPTION ..]: the hart, its disassembler and assembler, its loader of Intel HEX and
+the desk's environment against QEMU, GNU binutils and srecord
 
 COMPARISON, all of them one after the other if none is given:
   objdump   the text of many words, beside GNU objdump's
   as        GNU as, reading that text, gives the word back
+  asm       desk asm's library and GNU as give the same words for the same lines, and refuse the same
   qemu      random programs, step by step beside QEMU's riscv64 system emulator
   image     examples/torque, assembled again, gives the committed images
   hex       Intel HEX of GNU objcopy and srec_cat is loaded byte for byte, and they read what desk hex writes
@@ -78,6 +80,7 @@ fn compare(options: &Options) -> Result<u64, String> {
         differences += match comparison {
             Comparison::Objdump => objdump::compare(options.seed)?,
             Comparison::As => assembler::compare(options.seed)?,
+            Comparison::Asm => asm_lines::compare(options.seed)?,
             Comparison::Qemu => lockstep::compare(options.seed, options.programs.clone())?,
             Comparison::Image => image::compare()?,
             Comparison::Hex => hex::compare(options.seed)?,

@@ -6,15 +6,17 @@ use std::ops::Range;
 pub enum Comparison {
     Objdump,
     As,
+    Asm,
     Qemu,
     Image,
     Hex,
     C,
 }
 
-const COMPARISONS: [(&str, Comparison); 6] = [
+const COMPARISONS: [(&str, Comparison); 7] = [
     ("objdump", Comparison::Objdump),
     ("as", Comparison::As),
+    ("asm", Comparison::Asm),
     ("qemu", Comparison::Qemu),
     ("image", Comparison::Image),
     ("hex", Comparison::Hex),
@@ -58,7 +60,7 @@ pub fn read(given: &[String]) -> Result<Option<Options>, String> {
 fn comparison(name: &str) -> Result<Comparison, String> {
     let known = COMPARISONS.iter().find(|(known, _)| *known == name);
     known.map(|(_, comparison)| *comparison).ok_or_else(|| {
-        format!("{name}: no such comparison or option; there are objdump, as, qemu, image, hex, c, --seed S, --programs N and --program N")
+        format!("{name}: no such comparison or option; there are objdump, as, asm, qemu, image, hex, c, --seed S, --programs N and --program N")
     })
 }
 
@@ -91,6 +93,7 @@ mod tests {
             [
                 Comparison::Objdump,
                 Comparison::As,
+                Comparison::Asm,
                 Comparison::Qemu,
                 Comparison::Image,
                 Comparison::Hex,

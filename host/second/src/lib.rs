@@ -2,7 +2,7 @@
 //!
 //! It is written from document 01, the requests of document 02 and the RISC-V manuals, and not from the
 //! proved simulator, so that the two can be held against each other. It works by reference: a call changes the hart and the
-//! memory that it is lent. The calls are in `run`, loading a text in Intel HEX is in `hex`; the other files hold one subject each.
+//! memory that it is lent. The calls are in `run`, loading a text in Intel HEX is in `hex`, an instruction as eight numbers in `read` and `write`; the other files hold one subject each.
 
 mod alu;
 mod bits;
@@ -15,13 +15,17 @@ mod hex;
 mod memory;
 mod multiply;
 mod pads;
+mod read;
 mod refusal;
 mod run;
 mod shadow;
 mod translate;
 mod trap;
+mod write;
 
 pub use decode::family;
 pub use hart::Hart;
 pub use hex::{load_hex, Loaded};
+pub use read::read;
 pub use run::{run, step, step_word, Answer};
+pub use write::write;

@@ -226,7 +226,7 @@ fn go_back(state: &mut State, map: &PageMap) -> Result<(), Failure> {
         M => (word::MEPC, MRET),
         _ => (word::SEPC, SRET),
     };
-    let State { hart, mem } = state;
+    let State { hart, mem, .. } = state;
     hart.rest[epc] = hart.rest[epc].wrapping_add(4);
     let answer = sporhulma::step_word(hart, mem, &map.words, back);
     match (answer.refusal, answer.trapped) {

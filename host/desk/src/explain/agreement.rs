@@ -132,7 +132,7 @@ struct Seen {
 /// One step from `before`, whose explanation must agree with the hart.
 fn compare(before: &State, map: &PageMap, case: usize, seen: &mut Seen) {
     let mut after = before.clone();
-    let answer = sporhulma::step(&mut after.hart, &mut after.mem, &map.words);
+    let answer = after.steps(map, 1);
     assert_eq!(answer.refusal, 0, "case {case}");
     let symbols = Symbols::default();
     let own = expected(before, map, &symbols);
@@ -173,10 +173,13 @@ fn every_trap_is_explained_as_the_hart_gives_it() {
         let mut before = State {
             hart: Hart::fresh(),
             mem,
+            given: None,
         };
         for one in 0..HARTS {
             let map = map(&mut random);
             before.hart = hart(&mut random);
+            // Now and then a word that is given, not fetched.
+            before.given = (one % 8 == 0).then(|| instruction(&mut random));
             compare(&before, &map, memory * HARTS + one, &mut seen);
         }
     }
@@ -198,6 +201,7 @@ fn an_explanation_that_does_not_agree_is_not_given() {
     let before = State {
         hart: Hart::fresh(),
         mem: vec![0; 4096],
+        given: None,
     };
     let mut after = before.clone();
     let map = PageMap::default();

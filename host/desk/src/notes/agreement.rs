@@ -1,7 +1,7 @@
 //! A run in stretches sees what a trace sees that looks at every step; and what both count is what is counted here by hand.
 
 use super::watch::{Count, Seen, Watch};
-use crate::drive::{Drive, Limits};
+use crate::drive::{Drive, End, Limits};
 use crate::environment::{Environment, Output, Services};
 use crate::explain::agreement::{hart, instruction, map, Random};
 use crate::explain::{family, shadow_stack_on};
@@ -37,7 +37,7 @@ fn idle(state: &State, map: &PageMap) -> [Count; 4] {
     let (mut state, mut idle) = (state.clone(), [Count::default(); 4]);
     for _ in 0..STEPS {
         let before = state.clone();
-        let answer = sporhulma::step(&mut state.hart, &mut state.mem, &map.words);
+        let answer = state.steps(map, 1);
         let Ok(word) = before.next_word(map) else {
             continue;
         };
@@ -81,13 +81,13 @@ fn a_run_sees_what_a_trace_sees() {
             let mut hart = hart(random);
             hart.rest[word::MTVEC] = random.pick(&[0x8000_0000, 0x8000_0100, 0x8000_1000]);
             hart.rest[word::STVEC] = random.pick(&[0x1000, 0x8000_0040, 0x8000_1000]);
-            let (state, map) = (
-                State {
-                    hart,
-                    mem: mem.clone(),
-                },
-                map(random),
-            );
+            let word = instruction(random);
+            let state = State {
+                hart,
+                mem: mem.clone(),
+                given: random.pick(&[None, None, Some(word)]),
+            };
+            let map = map(random);
             let drive = |window: Window| {
                 drive(&state, &map)
                     .run(&window, &progress, &mut |_| Ok(()))
@@ -97,6 +97,8 @@ fn a_run_sees_what_a_trace_sees() {
             let trace = drive(Window::From(Start::Step(1), u64::MAX));
             assert_eq!(told(&run.watch), told(&trace.watch), "{hart:x?}");
             assert_eq!(run.after.hart, trace.after.hart);
+            let before = |end: &End| end.before.as_ref().map(|state| (state.hart, state.given));
+            assert_eq!(before(&run), before(&trace), "{hart:x?}");
             if run.watch.shadow != Seen::Off && run.count == STEPS {
                 assert_eq!(run.watch.idle, idle(&state, &map), "{hart:x?}");
                 counted += run
@@ -134,6 +136,7 @@ fn a_watch_fetches_what_the_hart_fetches() {
         let mut state = State {
             hart: hart(random),
             mem: mem.clone(),
+            given: None,
         };
         for _ in 0..200 {
             let other = hart(random);

@@ -96,10 +96,16 @@ impl Watch {
         let hart = &state.hart;
         let mut ahead = Ahead {
             steps: 1,
-            mapped: sv39(hart) && state.mode() != M,
+            mapped: sv39(hart) && state.mode() != M && state.given.is_none(),
             ..Ahead::default()
         };
-        let Some((index, word)) = self.fetched(state, map) else {
+        let next = match state.given {
+            Some(word) => Some((None, word)),
+            None => self
+                .fetched(state, map)
+                .map(|(index, word)| (Some(index), word)),
+        };
+        let Some((index, word)) = next else {
             return Some(ahead);
         };
         ahead.pad = hart.rest[word::ELP] == 1 && pads_on(hart);
@@ -117,7 +123,8 @@ impl Watch {
                 ahead.mapped |= path.sv39;
             }
         }
-        ahead.steps = stretch(&state.mem, index, looked_at);
+        // A given word is a step of its own.
+        ahead.steps = index.map_or(1, |index| stretch(&state.mem, index, looked_at));
         Some(ahead)
     }
 
@@ -165,7 +172,7 @@ impl Watch {
 
     /// How many steps surely go from word to word, each at the next address, unless one traps.
     pub fn line(&mut self, state: &State, map: &PageMap) -> u64 {
-        match self.fetched(state, map) {
+        match self.fetched(state, map).filter(|_| state.given.is_none()) {
             Some((index, _)) => stretch(&state.mem, index, false),
             None => 1,
         }

@@ -37,6 +37,8 @@ pub struct Made<'a> {
     pub before: &'a Hart,
     pub after: &'a State,
     pub answer: Answer,
+    /// The word, if it was given and not fetched.
+    pub given: Option<u32>,
     /// Whether the environment served it: then the program goes on behind it.
     pub served: bool,
     /// Whether the run ended with it.
@@ -111,6 +113,9 @@ impl<'a> Profile<'a> {
 
 /// The word that a step was made of. Memory is that behind the step; no jump writes any.
 fn fetched(made: &Made, map: &PageMap) -> Option<u32> {
+    if made.given.is_some() {
+        return made.given;
+    }
     let (hart, mem) = (made.before, &made.after.mem);
     let fetch = Access {
         kind: Kind::Fetch,

@@ -85,13 +85,13 @@ fn a_window_shows_what_the_whole_shows() {
                 hart.rest[word::PC] = random.pick(&[0x8000_0000, 0x8000_0204, 0x8000_1100]);
                 hart.x[11] = 0x8000_1800;
             }
-            let (state, map) = (
-                State {
-                    hart,
-                    mem: mem.clone(),
-                },
-                map(random),
-            );
+            let word = instruction(random);
+            let state = State {
+                hart,
+                mem: mem.clone(),
+                given: random.pick(&[None, None, Some(word)]),
+            };
+            let map = map(random);
             let shown = |window: &Window| shown(&state, &map, window, progress);
             let whole = shown(&Window::From(Start::Step(1), u64::MAX));
             let last = random.pick(&[1, 2, 7, 59, 60, 61]);

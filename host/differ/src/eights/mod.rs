@@ -1,5 +1,5 @@
 //! Request A1, instructions as eight numbers: all words through a read and a write, and eights made at random, near those that can be
-//! written.
+//! written; each beside the second simulator's own reader and writer.
 //!
 //! `shape` has which eights can be written, from include/sporhulma.h and the manuals; `make` makes eights near them; `soak` makes many.
 
@@ -7,7 +7,7 @@ pub mod make;
 pub mod shape;
 pub mod soak;
 
-use crate::simulator::Proved;
+use crate::simulator::{Proved, Second};
 
 pub type Numbers = [u64; 8];
 
@@ -27,6 +27,24 @@ impl Scribe for Proved {
     }
 }
 
+impl Scribe for Second {
+    fn read(&self, word: u32, numbers: &mut Numbers) -> u64 {
+        let read = second::read(word);
+        *numbers = read.unwrap_or_default();
+        read.map_or(REFUSED, |_| 0)
+    }
+
+    fn write(&self, numbers: &Numbers, word: &mut u32) -> u64 {
+        match second::write(numbers) {
+            Some(written) => {
+                *word = written;
+                0
+            }
+            None => REFUSED,
+        }
+    }
+}
+
 /// What stands in the word before a write, so that a refusal that leaves it alone can be told from one that does not.
 const BEFORE: u32 = 0x5EED_0BAD;
 const REFUSED: u64 = 5;
@@ -41,16 +59,40 @@ pub fn round<S: Scribe>(scribe: &S, word: u32, family: u64) -> Option<String> {
         0 => (read, numbers, wrote, written) == (REFUSED, [0; 8], REFUSED, !word),
         _ => (read, numbers[0], wrote, written) == (0, family, 0, word),
     };
-    (!good).then(|| {
+    let mut others = [u64::MAX; 8];
+    let same = (Second.read(word, &mut others), others) == (read, numbers);
+    (!good || !same).then(|| {
         format!(
-            "{word:#010x}, family {family}: read {read} as {}, written {wrote} as {written:#010x}",
-            text(&numbers)
+            "{word:#010x}, family {family}: read {read} as {}, by the second {}, written {wrote} as {written:#010x}",
+            text(&numbers),
+            text(&others)
         )
     })
 }
 
-/// The word of eight numbers or nothing where they are refused, as it has to be; else what is wrong.
+/// The word of eight numbers or nothing where they are refused, as it has to be by the table and by the second writer; else what is wrong.
 pub fn check<S: Scribe>(scribe: &S, numbers: &Numbers) -> Result<Option<u32>, String> {
+    let word = by_the_table(scribe, numbers)?;
+    match agrees(scribe, numbers) {
+        true => Ok(word),
+        false => Err(format!(
+            "answered {word:x?}, and the second writer {:x?}",
+            second::write(numbers)
+        )),
+    }
+}
+
+/// Whether the second writer does the same with these numbers.
+pub fn agrees<S: Scribe>(scribe: &S, numbers: &Numbers) -> bool {
+    let (mut word, mut other) = (BEFORE, BEFORE);
+    let (wrote, others) = (
+        scribe.write(numbers, &mut word),
+        Second.write(numbers, &mut other),
+    );
+    (wrote, word) == (others, other)
+}
+
+fn by_the_table<S: Scribe>(scribe: &S, numbers: &Numbers) -> Result<Option<u32>, String> {
     let mut word = BEFORE;
     let wrote = scribe.write(numbers, &mut word);
     let legal = shape::legal(numbers);
