@@ -6,10 +6,10 @@ use Prim.Native.Nat.{ℕ}
 use native.Mathlib.Omega.{arith}
 use Rattle.word.specs.Choice.{pick}
 use Rattle.page.specs.Kinds.{isFetch}
-use Rattle.page.specs.declared.Kind.the-variants.{Fetch, Load, Store, Push, Pop, Swap}
-use Rattle.page.specs.declared.Kind.{Kind}
-use Rattle.page.specs.declared.Mode.the-variants.{User, Supervisor, Machine}
-use Rattle.page.specs.declared.Mode.{Mode}
+use Rattle.isa.specs.declared.Kind.the-variants.{Fetch, Load, Store, Push, Pop, Swap}
+use Rattle.isa.specs.declared.Kind.{Kind}
+use Rattle.isa.specs.declared.Mode.the-variants.{User, Supervisor, Machine}
+use Rattle.isa.specs.declared.Mode.{Mode}
 use Rattle.address.specs.Control.{liftedOf}
 use Rattle.address.specs.Mask.{maskedOf, transformedOf}
 use Rattle.address.specs.declared.control.Control.{Control}

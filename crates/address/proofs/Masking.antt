@@ -7,8 +7,8 @@ use native.Mathlib.Nat.{mod-lt, zero-mul, one-mul, add-zero}
 use native.Mathlib.Omega.{arith}
 use lib.Pow.{pow-pos, pow-mono}
 use Rattle.word.specs.Choice.{pick}
-use Rattle.page.specs.declared.Kind.{Kind}
-use Rattle.page.specs.declared.Mode.{Mode}
+use Rattle.isa.specs.declared.Kind.{Kind}
+use Rattle.isa.specs.declared.Mode.{Mode}
 use Rattle.address.specs.Control.{pmmOf, pagedOf, unmaskedOf}
 use Rattle.address.specs.Mask.{pmlenOf, maskOf, maskedOf, transformedOf}
 use Rattle.address.specs.declared.control.Control.{Control}

@@ -1,8 +1,8 @@
 -- The kind of access that a memory instruction makes. A fetch is no instruction's.
 use Rattle.isa.specs.declared.Access.{Access}
 use Rattle.isa.specs.declared.Access.the-variants as access
-use Rattle.page.specs.declared.Kind.{Kind}
-use Rattle.page.specs.declared.Kind.the-variants as kind
+use Rattle.isa.specs.declared.Kind.{Kind}
+use Rattle.isa.specs.declared.Kind.the-variants as kind
 
 abbrev pub kindOf : Access → Kind
 kindOf (access.Load w signed) = kind.Load

@@ -1,7 +1,7 @@
 -- The causes of an access's faults.
 use Prim.Native.Nat.{ℕ}
-use Rattle.page.specs.declared.Kind.the-variants.{Fetch, Load, Store, Push, Pop, Swap}
-use Rattle.page.specs.declared.Kind.{Kind}
+use Rattle.isa.specs.declared.Kind.the-variants.{Fetch, Load, Store, Push, Pop, Swap}
+use Rattle.isa.specs.declared.Kind.{Kind}
 
 -- step 3: misaligned load, store or jump target: causes 4, 6, 0; misaligned swap: cause 7. A push or pop cannot be
 -- misaligned, since ssp is a multiple of 8; the manual's cause for it is 7 too

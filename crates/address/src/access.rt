@@ -1,6 +1,6 @@
 // The kind of access that a memory instruction makes.
 use isa::Access;
-use page::Kind;
+use isa::Kind;
 ghost use mathlib.Core.Path.{_≡_};
 ghost use Rattle.address.specs.Access.{kindOf};
 

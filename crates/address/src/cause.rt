@@ -1,5 +1,5 @@
 // The causes of an access's faults, by its kind.
-use page::Kind;
+use isa::Kind;
 ghost use mathlib.Core.Path.{_≡_};
 ghost use Rattle.address.specs.Cause.{misalignedOf, accessFaultOf, pageFaultOf};
 

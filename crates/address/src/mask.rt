@@ -2,8 +2,8 @@
 use super::Virtual;
 use super::control;
 use super::control::Control;
-use page::Kind;
-use page::Mode;
+use isa::Kind;
+use isa::Mode;
 ghost use mathlib.Core.Path.{_≡_};
 ghost use Prim.Native.Nat.{_^_, _<_, _≤_};
 ghost use Rattle.address.specs.Mask.{pmlenOf, maskOf, transformedOf};

@@ -1,15 +1,15 @@
-// What a public call is: its answer, and refusals 1 to 4, of a hart by value and of one as words (`words`). The definitions of the three
-// calls stand in specs/Call.antt. Who makes them is above: `machine`, and the boundary for C and Rust.
+// What a public call is: its answer, and refusals 1 to 4. The definitions of the three calls
+// stand in specs/Call.antt. Who makes them is above: `machine`, and the boundary for C and Rust.
 use hart::Hart;
+use hart::legal;
 use page::map;
+use words::COUNT;
 ghost use mathlib.Core.Path.{_≡_};
 ghost use mathlib.Core.Bool.{false, not};
 ghost use lib.Dec.{ltb};
 ghost use Rattle.word.specs.Choice.{pick};
+ghost use Rattle.hart.specs.Hart.{hart};
 ghost use Rattle.call.specs.Call.{refusalOf, runRefusalOf};
-
-// Refusals of a hart as words.
-pub mod words;
 
 // What a call answers. refusal is 0 where the call was taken, else document 01's number, and then the hart is the one handed in
 // and count is 0. cause is the last trap's, and 0 where there was none.
@@ -37,22 +37,22 @@ fn lowest(legal: bool, memory: bool, map: bool) -> u64
     1
 }
 
-// Refusals 1 to 3.
-pub fn refusal(h: Hart, mem: &[u8], map: &[u64]) -> u64
-    ensures { λ r. ⌜ r ≡ refusalOf h (now (mem .entry)) (now (map .entry)) ⌝ }
+// Refusals 1 to 3, of the hart of these words: one by value would be copied to be asked.
+pub fn refusal(x: &[u64; 32], w: &[u64; COUNT], mem: &[u8], map: &[u64]) -> u64
+    ensures { λ r. ⌜ r ≡ refusalOf (hart (now (x .entry)) (now (w .entry))) (now (mem .entry)) (now (map .entry)) ⌝ }
 {
     lowest(
-        h.legal(),
+        legal::of_words(x, w),
         memory::refused(mem.len() as u64),
         map::refused(map),
     )
 }
 
 // Refusals 1 to 4.
-pub fn run_refusal(h: Hart, mem: &[u8], map: &[u64], budget: u64) -> u64
-    ensures { λ r. ⌜ r ≡ runRefusalOf budget h (now (mem .entry)) (now (map .entry)) ⌝ }
+pub fn run_refusal(x: &[u64; 32], w: &[u64; COUNT], mem: &[u8], map: &[u64], budget: u64) -> u64
+    ensures { λ r. ⌜ r ≡ runRefusalOf budget (hart (now (x .entry)) (now (w .entry))) (now (mem .entry)) (now (map .entry)) ⌝ }
 {
-    let n = refusal(h, mem, map);
+    let n = refusal(x, w, mem, map);
     if n == 0 {
         return over(budget);
     }

@@ -3,8 +3,8 @@ use mathlib.Core.Bool.{true, false, _&&_}
 use Prim.Native.Nat.{ℕ}
 use lib.Dec.{eqb}
 use Rattle.word.specs.Choice.{pick}
-use Rattle.page.specs.declared.Mode.{Mode}
-use Rattle.page.specs.declared.Mode.the-variants.{User, Supervisor}
+use Rattle.isa.specs.declared.Mode.{Mode}
+use Rattle.isa.specs.declared.Mode.the-variants.{User, Supervisor}
 use Rattle.status.specs.Mode.{modeOf}
 use Rattle.status.specs.Status.{statusOf, wordOf}
 use Rattle.status.specs.declared.Status.{Status}

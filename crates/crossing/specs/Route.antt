@@ -1,8 +1,8 @@
 -- Whether a trap goes to S or to M.
 use mathlib.Core.Bool.{Bool, false}
 use Prim.Native.Nat.{ℕ}
-use Rattle.page.specs.declared.Mode.{Mode}
-use Rattle.page.specs.declared.Mode.the-variants.{User, Supervisor, Machine}
+use Rattle.isa.specs.declared.Mode.{Mode}
+use Rattle.isa.specs.declared.Mode.the-variants.{User, Supervisor, Machine}
 use Rattle.word.specs.Row.{bitOf}
 
 -- the cause is delegated: its bit of medeleg is set

@@ -1,8 +1,8 @@
 -- What a trap makes of mstatus.
 use mathlib.Core.Bool.{Bool, true, false}
 use Prim.Native.Nat.{ℕ}
-use Rattle.page.specs.declared.Mode.{Mode}
-use Rattle.page.specs.declared.Mode.the-variants.{User, Supervisor, Machine}
+use Rattle.isa.specs.declared.Mode.{Mode}
+use Rattle.isa.specs.declared.Mode.the-variants.{User, Supervisor, Machine}
 use Rattle.status.specs.Mode.{numberOf}
 use Rattle.status.specs.Status.{statusOf, wordOf}
 use Rattle.status.specs.declared.Status.{Status}

@@ -1,5 +1,5 @@
 // mstatus after a return, and the mode that a return goes to.
-use page::Mode;
+use isa::Mode;
 use status::Status;
 use status::mode;
 use status::pack;

@@ -1,5 +1,5 @@
 // Whether a trap goes to S or to M.
-use page::Mode;
+use isa::Mode;
 use word::shift;
 ghost use mathlib.Core.Path.{_≡_};
 ghost use Rattle.crossing.specs.Route.{delegatedOf, toS};

@@ -1,5 +1,5 @@
 // mstatus after a trap.
-use page::Mode;
+use isa::Mode;
 use status::Status;
 use status::mode;
 use status::pack;

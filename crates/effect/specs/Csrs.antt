@@ -8,7 +8,7 @@ use Rattle.isa.specs.declared.CsrOperation.{CsrOperation}
 use Rattle.isa.specs.declared.CsrOperation.the-variants.{Write, Set, Clear}
 use Rattle.isa.specs.declared.CsrSource.{CsrSource}
 use Rattle.isa.specs.declared.CsrSource.the-variants.{Register, Immediate}
-use Rattle.page.specs.declared.Mode.{Mode}
+use Rattle.isa.specs.declared.Mode.{Mode}
 use Rattle.rights.specs.Reach.{reachOf}
 use Rattle.rights.specs.declared.reach.Reached.{Reached}
 use Rattle.rights.specs.declared.reach.Reached.the-variants as reached

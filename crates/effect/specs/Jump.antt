@@ -3,7 +3,7 @@ use mathlib.Core.Bool.{Bool, _&&_, _||_, not}
 use Prim.Native.Nat.{ℕ, _-_, _%_}
 use lib.Dec.{eqb}
 use Rattle.word.specs.Choice.{pick}
-use Rattle.page.specs.declared.Kind.the-variants.{Fetch}
+use Rattle.isa.specs.declared.Kind.the-variants.{Fetch}
 use Rattle.address.specs.Cause.{misalignedOf}
 use Rattle.effect.specs.declared.Effect.{Effect}
 use Rattle.effect.specs.declared.Effect.the-variants.{Write, Jump, Trap}

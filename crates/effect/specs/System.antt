@@ -1,7 +1,7 @@
 -- MRET, SRET and the exceptions that an instruction makes by itself.
 use Prim.Native.Nat.{ℕ}
-use Rattle.page.specs.declared.Mode.{Mode}
-use Rattle.page.specs.declared.Mode.the-variants.{User, Supervisor, Machine}
+use Rattle.isa.specs.declared.Mode.{Mode}
+use Rattle.isa.specs.declared.Mode.the-variants.{User, Supervisor, Machine}
 use Rattle.rights.specs.Exception.{illegalOf}
 use Rattle.rights.specs.declared.exception.Exception.{Exception}
 use Rattle.effect.specs.declared.Effect.{Effect}

@@ -1,13 +1,13 @@
 // The CSR instructions: which CSR, with which operand, and whether it is written.
 use super::Effect;
-use super::Setting;
 use super::Whole;
 use super::register;
 use super::system;
 use isa::CsrOperation;
 use isa::CsrSource;
-use rights::reach;
+use regime::Setting;
 use rights::reach::Reached;
+use rights::reach;
 use word::logic;
 ghost use mathlib.Core.Path.{_≡_};
 ghost use Rattle.effect.specs.Csrs.{writesOf, mergedOf, fieldOf, operandOf, csrOf};

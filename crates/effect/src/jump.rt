@@ -1,7 +1,7 @@
 // JAL, JALR and branches. A target that is no multiple of 4 is an exception of the jump, and then nothing is written.
 use super::Effect;
 use address::cause;
-use page::Kind;
+use isa::Kind;
 use word::choice;
 use word::sum;
 ghost use mathlib.Core.Path.{_≡_};

@@ -1,6 +1,5 @@
 // What an instruction changes: a small value, the effect, which the hart applies; and what each family of instructions but loads, stores
 // and the shadow stack's (crate `transfer`) does, from its operands' values. Nothing here knows a hart, and nothing here changes anything but `register::put`, which writes a lent array.
-use address::control::Control;
 use csr::Csr;
 use isa::CsrOperation;
 use isa::Width;
@@ -16,15 +15,6 @@ pub mod jump;
 pub mod csrs;
 // MRET, SRET, ECALL, EBREAK and illegal instructions.
 pub mod system;
-
-// What a hart's mode and CSRs say about an instruction, beside its accesses: the active shadow enable, whether ssp
-// may be touched as a CSR (and the swap is legal), and the pad enable.
-pub struct Setting {
-    pub control: Control,
-    pub shadow: bool,
-    pub permitted: bool,
-    pub pad: bool,
-}
 
 // What an instruction changes. `next` is pc after it.
 //

@@ -1,7 +1,7 @@
 // MRET, SRET, ECALL, EBREAK and illegal instructions.
 use super::Effect;
 use super::Whole;
-use page::Mode;
+use isa::Mode;
 use rights::exception;
 use rights::exception::Exception;
 ghost use mathlib.Core.Path.{_≡_};

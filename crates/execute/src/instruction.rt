@@ -1,6 +1,6 @@
 // One instruction's effect.
 use effect::Effect;
-use effect::Setting;
+use regime::Setting;
 use effect::compute;
 use effect::csrs;
 use effect::jump;

@@ -3,7 +3,7 @@ use super::instruction;
 use address::Virtual;
 use address::control::Control;
 use effect::Effect;
-use effect::Setting;
+use regime::Setting;
 use effect::register::reg;
 use meaning::Fetched;
 use meaning::Source;

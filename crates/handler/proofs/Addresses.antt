@@ -7,8 +7,8 @@ use native.Mathlib.Omega.{arith}
 use lib.Dec.{ltb}
 use Rattle.word.proofs.Choices.{second}
 use Rattle.word.proofs.Either.{either}
-use Rattle.page.specs.declared.Mode.{Mode}
-use Rattle.page.specs.declared.Mode.the-variants.{Machine}
+use Rattle.isa.specs.declared.Mode.{Mode}
+use Rattle.isa.specs.declared.Mode.the-variants.{Machine}
 use Rattle.status.specs.Mode.{numberOf}
 use Rattle.csr.specs.declared.Csr.the-variants.{Sscratch, Sepc, Scause, Stval}
 use Rattle.rights.specs.Reach.{reachOf}

@@ -12,7 +12,7 @@ use Rattle.word.specs.declared.field.Fields.{Fields}
 use Rattle.word.specs.Row.{readOf, writeOf}
 use Rattle.isa.specs.declared.CsrOperation.{CsrOperation}
 use Rattle.isa.specs.declared.CsrSource.the-variants.{Register}
-use Rattle.page.specs.declared.Mode.{Mode}
+use Rattle.isa.specs.declared.Mode.{Mode}
 use Rattle.csr.specs.Row.{fours, word}
 use Rattle.rights.specs.Enable.{sseOf}
 use Rattle.effect.specs.Csrs.{csrOf, reachedOf, writesOf, mergedOf}

@@ -7,7 +7,7 @@ use Prim.Native.Nat.{ℕ, _%_, _<_}
 use lib.Dec.{eqb}
 use Rattle.word.specs.Choice.{pick, Table, _⇒_¦_, otherwise, look}
 use Rattle.word.specs.Row.{Field, readOf}
-use Rattle.page.specs.declared.Mode.{Mode}
+use Rattle.isa.specs.declared.Mode.{Mode}
 use Rattle.csr.specs.Row.{rowOf, fours, word}
 use Rattle.csr.specs.declared.Csr.{Csr}
 use Rattle.csr.specs.declared.Csr.the-variants.{Sscratch, Sepc, Scause, Stval, Mscratch, Mepc, Mcause, Mtval}

@@ -2,11 +2,15 @@
 // in place on a hart's registers and words. The whole way passes through three enums and six jumps, and a handler's few instructions are most of a
 // trap's cost. Any other word is left undone and changes nothing: it goes the whole way, by `execute::plan`.
 //
-// Its own crate, since it is a second way to the same effects: the definitions are those of `execute` and `bank`, and nothing here adds to them.
+// Its own crate, since it is a second way to the same effects: the definitions are those of `meaning` and `words`, and nothing here adds to them.
 use effect::csrs;
 use effect::register;
 use isa::CsrOperation;
 use word::field;
+use words::COUNT;
+use words::MODE;
+use words::MSCRATCH;
+use words::SSCRATCH;
 ghost use mathlib.Core.Bool.{Bool};
 ghost use mathlib.Core.List.{List};
 ghost use mathlib.Core.Path.{_≡_};
@@ -19,7 +23,7 @@ ghost use Rattle.decoder.specs.Decode.{decodeOf};
 ghost use Rattle.status.specs.Mode.{modeOf};
 ghost use Rattle.effect.specs.Csrs.{csrOf, writesOf, mergedOf};
 ghost use Rattle.effect.specs.Register.{regOf, putOf};
-ghost use Rattle.effect.specs.declared.Setting.{Setting};
+ghost use Rattle.regime.specs.declared.Setting.{Setting};
 ghost use Rattle.meaning.specs.Instruction.{executeOf, nextOf};
 ghost use Rattle.handler.specs.Handler.{Handles};
 ghost use Rattle.handler.specs.Named.{Finds, heldOf};
@@ -37,14 +41,14 @@ fn slot(address: u16, mode: u64) -> Found
 {
     if address / 4 == 0xd0 {
         if mode == 3 {
-            return Found::At(15 + (address % 4) as usize);
+            return Found::At(MSCRATCH + (address % 4) as usize);
         }
         return Found::Nowhere;
     }
     if address / 4 == 0x50 {
         return match mode {
-            1 => Found::At(6 + (address % 4) as usize),
-            3 => Found::At(6 + (address % 4) as usize),
+            1 => Found::At(SSCRATCH + (address % 4) as usize),
+            3 => Found::At(SSCRATCH + (address % 4) as usize),
             _ => Found::Nowhere,
         };
     }
@@ -62,8 +66,8 @@ fn held(address: u16, v: u64) -> u64
 }
 
 // v at k, where an instruction writes. A function of its own, since the proof of a branch that others follow on is longer.
-fn store(rest: &mut [u64; 20], k: usize, writes: bool, v: u64)
-    requires { ⌜ k < 20 ⌝ }
+fn store(rest: &mut [u64; COUNT], k: usize, writes: bool, v: u64)
+    requires { ⌜ k < COUNT ⌝ }
     ensures { λ _. ⌜ now (rest .exit) ≡ pick writes (set (now (rest .entry)) k v) (now (rest .entry)) ⌝ }
 {
     if writes {
@@ -75,14 +79,14 @@ fn store(rest: &mut [u64; 20], k: usize, writes: bool, v: u64)
 // The instruction on the word at k. The operand is read before rd is written, which may be the same register.
 fn csr(
     x: &mut [u64; 32],
-    rest: &mut [u64; 20],
+    rest: &mut [u64; COUNT],
     k: usize,
     o: CsrOperation,
     rs1: u8,
     rd: u8,
     address: u16,
 )
-    requires { ⌜ k < 20 ⌝ }
+    requires { ⌜ k < COUNT ⌝ }
     ensures { λ _. ⌜ (now (x .exit) ≡ putOf rd (heldOf address (getD (now (rest .entry)) k 0)) (now (x .entry)))
         × (now (rest .exit) ≡ pick (writesOf o rs1)
         (set (now (rest .entry)) k (heldOf address (mergedOf o (heldOf address (getD (now (rest .entry)) k 0)) (regOf (now (x .entry)) rs1))))
@@ -96,13 +100,13 @@ fn csr(
 }
 
 // A word whose opcode and funct3 are those of CSR operation o with a register.
-fn csr_word(w: u32, x: &mut [u64; 32], rest: &mut [u64; 20], o: CsrOperation) -> bool
+fn csr_word(w: u32, x: &mut [u64; 32], rest: &mut [u64; COUNT], o: CsrOperation) -> bool
     ensures { λ r. ⌜ ((next : ℕ) (permitted : Bool)
         → Handles r (csrOf o (Register (bits w 19 15)) (bits w 11 7) (bits w 31 20) w (now (x .entry)) next (modeOf (getD (now (rest .entry)) 1 0)) permitted)
         (now (x .entry)) (now (rest .entry)) next (now (x .exit)) (now (rest .exit))) ⌝ }
 {
     let address = (w / 1048576 % 4096) as u16;
-    match slot(address, rest[1]) {
+    match slot(address, rest[MODE]) {
         Found::At(k) => {
             let f = field::split(w);
             csr(x, rest, k, o, f.rs1, f.rd, address);
@@ -114,7 +118,7 @@ fn csr_word(w: u32, x: &mut [u64; 32], rest: &mut [u64; 20], o: CsrOperation) ->
 
 // One word, by funct3 and opcode, on the registers x and the hart's twenty other words; whether it was done. If so, pc goes on to the next
 // instruction, which is left to the caller.
-pub fn handle(w: u32, x: &mut [u64; 32], rest: &mut [u64; 20]) -> bool
+pub fn handle(w: u32, x: &mut [u64; 32], rest: &mut [u64; COUNT]) -> bool
     ensures { λ r. ⌜ ((pc ssp : ℕ) (s : Setting) (m map : List ℕ) → s .control .mode ≡ modeOf (getD (now (rest .entry)) 1 0)
         → Handles r (executeOf (decodeOf w) w (now (x .entry)) pc ssp s m map)
         (now (x .entry)) (now (rest .entry)) (nextOf pc) (now (x .exit)) (now (rest .exit))) ⌝ }

@@ -6,17 +6,19 @@ use mathlib.Core.Path.{_≡_, refl, ap, _∙_}
 use Prim.Native.Nat.{ℕ, suc, _+_, _-_, _<_, _≤_}
 use native.Mathlib.Nat.{add-assoc}
 use native.Mathlib.Omega.{arith}
-use Rattle.effect.specs.declared.Effect.{Effect}
-use Rattle.effect.specs.declared.Effect.the-variants.{Write, Jump, Pad, Store, Push, Pop, Swap, Whole, Trap}
 use Rattle.meaning.specs.declared.Source.{Source}
 use Rattle.meaning.specs.declared.Source.the-variants.{Fetch}
-use Rattle.hart.specs.Run.{Run, after, stayed, once, followed, runFrom, Midway, ranOf, toldOf}
-use Rattle.transfer.specs.Commit.{memoryOf}
-use Rattle.hart.specs.Step.{Outcome, applyOf, trapsOf, causeOf, planOf, stepFrom}
-use Rattle.hart.specs.Trap.{trapOf}
+use Rattle.effect.specs.declared.Effect.{Effect}
+use Rattle.effect.specs.declared.Effect.the-variants.{Write, Jump, Pad, Store, Push, Pop, Swap, Whole, Trap}
+use Rattle.hart.specs.Hart.{hart}
+use Rattle.hart.specs.Run.{Run, after, stayed, once, followed, runFrom, Midway}
+use Rattle.hart.specs.Step.{Outcome, trapsOf, causeOf, planOf, stepFrom, steppedOf}
 use Rattle.hart.specs.declared.Hart.{Hart}
-use Rattle.hart.specs.declared.engine.Told.{Told}
-use Rattle.hart.specs.declared.run.Ran.{Ran}
+use Rattle.hart.specs.declared.methods.Stepped.{Stepped}
+
+-- registers and words are the hart
+pub same-hart : (h : Hart) (x w : List ℕ) → x ≡ h .x → w ≡ h .words → hart x w ≡ h
+same-hart h x w e f = rw (e, f)
 
 pub start : (source : Source) (budget : ℕ) (h : Hart) (m map : List ℕ) → Midway (runFrom source budget h m map) budget budget source h m map
 start source budget h m map =
@@ -24,32 +26,34 @@ start source budget h m map =
     let z : 0 + runFrom source budget h m map .count ≡ runFrom source budget h m map .count = omega arith in
     (omega arith, rw (e, z))
 
-turn : (source : Source) (k n : ℕ) (g : Hart) (m map : List ℕ) (e : Effect) → planOf source g m map ≡ e → trapsOf e ≡ false
-    → after k (runFrom source (suc n) g m map) ≡ after (k + 1) (runFrom Fetch n (applyOf e g) (memoryOf e m) map)
-unfolding runFrom stepFrom
-turn source k n g m map e p q = rw (p, q, ← add-assoc)
+module _ (source : Source) (k n : ℕ) (g : Hart) (m map : List ℕ) where
+  turn : stepFrom source g m map .trapped ≡ false
+      → after k (runFrom source (suc n) g m map) ≡ after (k + 1) (runFrom Fetch n (stepFrom source g m map .hart) (stepFrom source g m map .memory) map)
+  unfolding runFrom
+  turn q = rw (q, ← add-assoc)
 
-last-turn : (source : Source) (k n : ℕ) (g : Hart) (m map : List ℕ) (c t : ℕ) → planOf source g m map ≡ Trap c t
-    → after k (runFrom source (suc n) g m map) ≡ record { hart = trapOf g c t; memory = m; count = k + 1; trapped = true; cause = c }
-unfolding runFrom stepFrom
-last-turn source k n g m map c t p = rw p
+  last-turn : stepFrom source g m map .trapped ≡ true
+      → after k (runFrom source (suc n) g m map)
+      ≡ record { hart = stepFrom source g m map .hart; memory = stepFrom source g m map .memory; count = k + 1; trapped = true; cause = stepFrom source g m map .cause }
+  unfolding runFrom
+  last-turn q = rw q
 
 module _ (whole : Run) (budget left : ℕ) (source : Source) (g : Hart) (m map : List ℕ) (now : Midway whole budget left source g m map) where
   -- a step that does not trap
-  pub again : 0 < left → (e : Effect) → planOf source g m map ≡ e → trapsOf e ≡ false
-      → Midway whole budget (left - 1) Fetch (applyOf e g) (memoryOf e m) map
-  again h e p q =
+  pub again : 0 < left → stepFrom source g m map .trapped ≡ false
+      → Midway whole budget (left - 1) Fetch (stepFrom source g m map .hart) (stepFrom source g m map .memory) map
+  again h q =
       let s : left ≡ suc (left - 1) = omega arith in
       let k : budget - left + 1 ≡ budget - (left - 1) = omega arith in
-      (omega arith, now .1 ∙ ap (λ (n : ℕ). after (budget - left) (runFrom source n g m map)) s ∙ turn source (budget - left) (left - 1) g m map e p q ∙ rw k)
+      (omega arith, now .1 ∙ ap (λ (n : ℕ). after (budget - left) (runFrom source n g m map)) s ∙ turn source (budget - left) (left - 1) g m map q ∙ rw k)
 
   -- a step that traps
-  pub ended : 0 < left → (c t : ℕ) → planOf source g m map ≡ Trap c t
-      → whole ≡ record { hart = trapOf g c t; memory = m; count = budget - (left - 1); trapped = true; cause = c }
-  ended h c t p =
+  pub ended : 0 < left → stepFrom source g m map .trapped ≡ true
+      → whole ≡ record { hart = stepFrom source g m map .hart; memory = stepFrom source g m map .memory; count = budget - (left - 1); trapped = true; cause = stepFrom source g m map .cause }
+  ended h q =
       let s : left ≡ suc (left - 1) = omega arith in
       let k : budget - left + 1 ≡ budget - (left - 1) = omega arith in
-      now .1 ∙ ap (λ (n : ℕ). after (budget - left) (runFrom source n g m map)) s ∙ last-turn source (budget - left) (left - 1) g m map c t p ∙ rw k
+      now .1 ∙ ap (λ (n : ℕ). after (budget - left) (runFrom source n g m map)) s ∙ last-turn source (budget - left) (left - 1) g m map q ∙ rw k
 
   -- the budget is spent
   pub spent : left ≤ 0 → whole ≡ record { hart = g; memory = m; count = budget; trapped = false; cause = 0 }
@@ -90,7 +94,7 @@ unfolding runFrom stepFrom
 one-step source h m map =
     followed-once (stepFrom source h m map .trapped) (stepFrom source h m map) refl (no-cause (planOf source h m map))
 
--- a run as it is handed back, from its hart and its numbers
-pub ran : (run : Run) (h : Hart) (t : Told) → h ≡ run .hart → t ≡ toldOf run
-    → _≡_ {A = Ran} (record { hart = h; count = t .count; trapped = t .trapped; cause = t .cause }) (ranOf run)
-ran run h t e f = rw (e, f)
+-- a step as it is handed back, from its registers, its words and what it tells
+pub handed-back : (o : Outcome) (x w : List ℕ) (trapped : Bool) (cause : ℕ) → x ≡ o .hart .x → w ≡ o .hart .words → trapped ≡ o .trapped → cause ≡ o .cause
+    → _≡_ {A = Stepped} (record { hart = hart x w; trapped = trapped; cause = cause }) (steppedOf o)
+handed-back o x w trapped cause e f g h = rw (e, f, g, h)

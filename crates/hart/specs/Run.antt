@@ -7,8 +7,6 @@ use Rattle.meaning.specs.declared.Source.{Source}
 use Rattle.meaning.specs.declared.Source.the-variants.{Fetch}
 use Rattle.hart.specs.Step.{Outcome, stepFrom}
 use Rattle.hart.specs.declared.Hart.{Hart}
-use Rattle.hart.specs.declared.engine.Told.{Told}
-use Rattle.hart.specs.declared.run.Ran.{Ran}
 
 -- the hart and memory at its end, the number of steps taken, the trapping one included, and the last trap's cause if there was one
 pub record Run : Type 0 where
@@ -49,11 +47,3 @@ runOf budget h m map = runFrom Fetch budget h m map
 -- a run, taken up in its middle: what is left, run, gives the whole
 abbrev pub Midway : (whole : Run) (budget left : ℕ) → Source → Hart → (m map : List ℕ) → Type 0
 Midway whole budget left source g m map = (left ≤ budget) × (whole ≡ after (budget - left) (runFrom source left g m map))
-
--- a run as the code hands it back, memory apart
-abbrev pub ranOf : Run → Ran
-ranOf r = record { hart = r .hart; count = r .count; trapped = r .trapped; cause = r .cause }
-
--- and its numbers alone
-abbrev pub toldOf : Run → Told
-toldOf r = record { count = r .count; trapped = r .trapped; cause = r .cause }

@@ -18,42 +18,36 @@ use Rattle.meaning.specs.declared.Source.{Source}
 use Rattle.meaning.specs.declared.Source.the-variants.{Fetch, Given}
 use Rattle.effect.specs.declared.Whole.{Whole}
 use Rattle.effect.specs.declared.Whole.the-variants as whole
-use Rattle.hart.specs.Access.{csrReadOf, csrWriteOf}
-use Rattle.bank.specs.Setting.{settingOf}
-use Rattle.hart.specs.Return.{mretOf, sretOf}
-use Rattle.hart.specs.Setters.{withPc, withX, withElp, withSsp}
-use Rattle.hart.specs.Trap.{trapOf}
+use Rattle.words.specs.Words.{_of_, _but_≔_, expected, flagOf, PC, ELP, SSP}
+use Rattle.words.specs.Access.{shownOf, csrWriteOf}
+use Rattle.words.specs.Setting.{settingOf}
+use Rattle.words.specs.Return.{mretOf, sretOf}
+use Rattle.words.specs.Trap.{trapOf}
+use Rattle.hart.specs.Hart.{hart}
 use Rattle.hart.specs.declared.Hart.{Hart}
-use Rattle.hart.specs.declared.step.Stepped.{Stepped}
-
--- register rd becomes v
-abbrev pub withReg : (rd v : ℕ) → Hart → Hart
-withReg rd v h = withX (putOf rd v (h .x)) h
-
--- the hart after CSR n took v, where the instruction writes
-unfoldable pub changedOf : (writes : Bool) → Csr → (v : ℕ) → Hart → Hart
-changedOf writes n v h = pick writes (csrWriteOf n v h) h
+use Rattle.hart.specs.declared.methods.Stepped.{Stepped}
 
 -- a CSR instruction: rd takes what the CSR showed
 unfoldable pub csrOf : CsrOperation → Csr → (writes : Bool) → (v rd next : ℕ) → Hart → Hart
-csrOf o n writes v rd next h = withPc next (withReg rd (csrReadOf n h) (changedOf writes n (mergedOf o (csrReadOf n h) v) h))
+csrOf o n writes v rd next h =
+    hart (putOf rd (shownOf n (h .words)) (h .x)) (pick writes (csrWriteOf n (mergedOf o (shownOf n (h .words)) v) (h .words)) (h .words) but PC ≔ next)
 
 unfoldable pub wholeOf : Whole → Hart → Hart
 wholeOf (whole.Csr o n writes v rd next) h = csrOf o n writes v rd next h
-wholeOf whole.Mret h = mretOf h
-wholeOf whole.Sret h = sretOf h
+wholeOf whole.Mret h = hart (h .x) (mretOf (h .words))
+wholeOf whole.Sret h = hart (h .x) (sretOf (h .words))
 
 -- the hart after an effect
 abbrev pub applyOf : Effect → Hart → Hart
-applyOf (Write rd v next) h = withPc next (withReg rd v h)
-applyOf (Jump rd link next elp) h = withElp elp (withPc next (withReg rd link h))
-applyOf (Pad next) h = withElp false (withPc next h)
-applyOf (Store q w v next) h = withPc next h
-applyOf (Push q v ssp next) h = withPc next (withSsp ssp h)
-applyOf (Pop ssp next) h = withPc next (withSsp ssp h)
-applyOf (Swap rd old q w v next) h = withPc next (withReg rd old h)
+applyOf (Write rd v next) h = hart (putOf rd v (h .x)) (h .words but PC ≔ next)
+applyOf (Jump rd link next elp) h = hart (putOf rd link (h .x)) (h .words but PC ≔ next but ELP ≔ flagOf elp)
+applyOf (Pad next) h = hart (h .x) (h .words but PC ≔ next but ELP ≔ 0)
+applyOf (Store q w v next) h = hart (h .x) (h .words but PC ≔ next)
+applyOf (Push q v ssp next) h = hart (h .x) (h .words but PC ≔ next but SSP ≔ ssp)
+applyOf (Pop ssp next) h = hart (h .x) (h .words but PC ≔ next but SSP ≔ ssp)
+applyOf (Swap rd old q w v next) h = hart (putOf rd old (h .x)) (h .words but PC ≔ next)
 applyOf (effect.Whole k) h = wholeOf k h
-applyOf (Trap cause tval) h = trapOf h cause tval
+applyOf (Trap cause tval) h = hart (h .x) (trapOf (h .words) cause tval)
 
 -- whether an effect is a trap
 abbrev pub trapsOf : Effect → Bool
@@ -91,7 +85,7 @@ outcomeOf e h m = record { hart = applyOf e h; memory = memoryOf e m; trapped = 
 
 -- the effect of the instruction
 abbrev pub planOf : Source → Hart → (m map : List ℕ) → Effect
-planOf source h m map = effectOf source (h .x) (h .pc) (h .elp) (h .ssp) (settingOf (h .mode) (h .csrs)) m map
+planOf source h m map = effectOf source (h .x) (PC of h .words) (expected (h .words)) (SSP of h .words) (settingOf (h .words)) m map
 
 unfoldable pub stepFrom : Source → Hart → (m map : List ℕ) → Outcome
 stepFrom source h m map = outcomeOf (planOf source h m map) h m

@@ -1,33 +1,38 @@
-// A step: the effect of the instruction at pc, or of a given word, applied to the hart and to memory. It is a run of one
-// step: the compiler inlines the making of an effect only where it has one caller, and that is the run's loop.
-use super::Hart;
-use super::run;
+// A step: the effect of the instruction at pc, or of a given word, applied to the hart and to memory.
+use super::apply;
+use super::apply::Done;
+use execute::plan;
 use meaning::Source;
+use regime::Setting;
+use words::COUNT;
+use words::ELP;
+use words::PC;
+use words::SSP;
+ghost use mathlib.Core.Bool.{false};
 ghost use mathlib.Core.Path.{_≡_};
 ghost use Prim.Native.Nat.{_^_, _≤_};
 ghost use lib.ListN.{length};
-ghost use Rattle.hart.specs.Step.{stepFrom, steppedOf};
+ghost use Rattle.words.specs.Setting.{settingOf};
+ghost use Rattle.hart.specs.Hart.{hart};
+ghost use Rattle.hart.specs.Step.{stepFrom};
 
-// What a step hands back: the hart after it, and the trap's cause if it trapped (0 where it did not).
-pub struct Stepped {
-    pub hart: Hart,
-    pub trapped: bool,
-    pub cause: u64,
-}
-
-impl Hart {
-    // A step that fetches, or that takes a given word.
-    pub fn step(mut self, source: Source, mem: &mut [u8], map: &[u64]) -> Stepped
-        requires { ⌜ length (now mem) ≤ 2 ^ 20 ⌝ }
-        ensures answer { λ r. ⌜ r ≡ steppedOf (stepFrom source self (now (mem .entry)) (now (map .entry))) ⌝ }
-        ensures memory { λ r. ⌜ now (mem .exit) ≡ stepFrom source self (now (mem .entry)) (now (map .entry)) .memory ⌝ }
-    {
-        let r = run::run(self, source, mem, map, 1);
-        self = r.hart;
-        Stepped {
-            hart: self,
-            trapped: r.trapped,
-            cause: r.cause,
-        }
-    }
+// One step of the hart of these words, whose setting is known.
+pub fn one(
+    x: &mut [u64; 32],
+    w: &mut [u64; COUNT],
+    source: Source,
+    s: Setting,
+    mem: &mut [u8],
+    map: &[u64],
+) -> Done
+    requires { ⌜ (length (now mem) ≤ 2 ^ 20) × (s ≡ settingOf (now w)) ⌝ }
+    ensures registers { λ _. ⌜ now (x .exit) ≡ stepFrom source (hart (now (x .entry)) (now (w .entry))) (now (mem .entry)) (now (map .entry)) .hart .x ⌝ }
+    ensures words { λ _. ⌜ now (w .exit) ≡ stepFrom source (hart (now (x .entry)) (now (w .entry))) (now (mem .entry)) (now (map .entry)) .hart .words ⌝ }
+    ensures memory { λ _. ⌜ now (mem .exit) ≡ stepFrom source (hart (now (x .entry)) (now (w .entry))) (now (mem .entry)) (now (map .entry)) .memory ⌝ }
+    ensures told { λ r. ⌜ (r .trapped ≡ stepFrom source (hart (now (x .entry)) (now (w .entry))) (now (mem .entry)) (now (map .entry)) .trapped)
+        × (r .cause ≡ stepFrom source (hart (now (x .entry)) (now (w .entry))) (now (mem .entry)) (now (map .entry)) .cause) ⌝ }
+    ensures setting { λ r. ⌜ (r .switched ≡ false → settingOf (now (w .exit)) ≡ settingOf (now (w .entry))) ⌝ }
+{
+    let e = plan::plan(source, x, w[PC], w[ELP] == 1, w[SSP], s, mem, map);
+    apply::apply(x, w, mem, e)
 }

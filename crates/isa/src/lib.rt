@@ -1,4 +1,4 @@
-// The instructions: their decoded form, and how many bytes an access moves.
+// What every layer shares: the instructions in their decoded form, how many bytes an access moves and what it is for, and the modes.
 //
 // The decoded form keeps every field of the word, also those that the hart ignores (FENCE's, a Zimop
 // word's, aq and rl), so that a word can be written back from it. Immediates and offsets are the 64 bits
@@ -25,6 +25,23 @@ pub enum Access {
     Pop,
     // shadow swap: width, aq, rl
     Swap(Width, bool, bool),
+}
+
+// What an access is for, as the rules of translation tell them apart.
+pub enum Kind {
+    Fetch,
+    Load,
+    Store,
+    Push,
+    Pop,
+    Swap,
+}
+
+// The privilege modes.
+pub enum Mode {
+    User,
+    Supervisor,
+    Machine,
 }
 
 // When a branch is taken.

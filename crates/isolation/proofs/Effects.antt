@@ -16,8 +16,8 @@ use Rattle.isa.specs.declared.Instruction.the-variants.{Illegal, Lui, Auipc, Ja
 use Rattle.isa.specs.declared.Width.{Width}
 use Rattle.isa.specs.declared.Width.the-variants as width
 use Rattle.memory.specs.Extend.{extendOf}
-use Rattle.page.specs.declared.Kind.{Kind}
-use Rattle.page.specs.declared.Kind.the-variants as kind
+use Rattle.isa.specs.declared.Kind.{Kind}
+use Rattle.isa.specs.declared.Kind.the-variants as kind
 use Rattle.address.specs.Access.{kindOf}
 use Rattle.address.specs.declared.control.Control.{Control}
 use Rattle.place.specs.Place.{placeOf}
@@ -27,7 +27,7 @@ use Rattle.place.specs.declared.Place.the-variants.{At, Fault}
 use Rattle.effect.specs.Register.{regOf}
 use Rattle.effect.specs.declared.Effect.{Effect}
 use Rattle.effect.specs.declared.Effect.the-variants.{Write, Pad, Swap, Trap}
-use Rattle.effect.specs.declared.Setting.{Setting}
+use Rattle.regime.specs.declared.Setting.{Setting}
 use Rattle.transfer.specs.Access.{gateOf, addressOf, readOf, poppedOf, doneOf, atOf, passedOf, accessOf}
 use Rattle.transfer.specs.declared.access.Gate.{Gate}
 use Rattle.transfer.specs.declared.access.Gate.the-variants as gate

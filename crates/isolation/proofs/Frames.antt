@@ -10,10 +10,10 @@ use lib.ListN.{length}
 use Rattle.word.proofs.Bools.{both}
 use Rattle.isa.specs.Size.{sizeOf}
 use Rattle.isa.specs.declared.Width.{Width}
-use Rattle.page.specs.declared.Kind.{Kind}
-use Rattle.page.specs.declared.Kind.the-variants.{Fetch, Load, Store, Push, Pop, Swap}
+use Rattle.isa.specs.declared.Kind.{Kind}
+use Rattle.isa.specs.declared.Kind.the-variants.{Fetch, Load, Store, Push, Pop, Swap}
 use Rattle.page.specs.Kinds.{writes}
-use Rattle.page.specs.declared.Mode.the-variants.{User}
+use Rattle.isa.specs.declared.Mode.the-variants.{User}
 use Rattle.page.specs.declared.Regime.{Regime}
 use Rattle.leaf.specs.Leaf.{leafOf}
 use Rattle.leaf.specs.declared.Leaf as leaf

@@ -12,8 +12,8 @@ use Rattle.isa.specs.declared.Width.{Width}
 use Rattle.isa.specs.declared.Width.the-variants.{Double}
 use Rattle.memory.specs.Bytes.{storeOf}
 use Rattle.page.specs.Kinds.{writes}
-use Rattle.page.specs.declared.Kind.{Kind}
-use Rattle.page.specs.declared.Kind.the-variants as kind
+use Rattle.isa.specs.declared.Kind.{Kind}
+use Rattle.isa.specs.declared.Kind.the-variants as kind
 use Rattle.place.proofs.Reach.{place-index}
 use Rattle.place.specs.Place.{base, placeOf}
 use Rattle.place.specs.declared.Physical.{Physical}

@@ -8,8 +8,8 @@ use borrow.Author.Tests.{not-true}
 use Rattle.page.specs.Kinds.{isShadow, isFetch, writes}
 use Rattle.leaf.specs.Leaf.{shadowPage, readOnly, hasRight, validLeaf}
 use Rattle.judge.specs.Judge.{userBit, offReadOnly, ownPage, readable, permits, accessedDirty, guard, judgeOf}
-use Rattle.page.specs.declared.Kind.the-variants.{Fetch, Load, Store, Push, Pop, Swap}
-use Rattle.page.specs.declared.Kind.{Kind}
+use Rattle.isa.specs.declared.Kind.the-variants.{Fetch, Load, Store, Push, Pop, Swap}
+use Rattle.isa.specs.declared.Kind.{Kind}
 use Rattle.page.specs.declared.Regime.{Regime}
 use Rattle.leaf.specs.declared.Leaf.{Leaf}
 use Rattle.judge.specs.declared.Verdict.the-variants.{Granted, PageFault, AccessFault}

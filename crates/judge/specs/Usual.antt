@@ -1,10 +1,10 @@
 -- The usual grant: what most accesses are granted on, by fewer tests than steps 5 to 8. Whatever it grants, those steps grant
 -- (`usual-granted` in proofs/Shortcut.antt); of the rest it says nothing.
 use mathlib.Core.Bool.{Bool, false, _&&_, not}
-use Rattle.page.specs.declared.Kind.the-variants.{Fetch, Load, Store, Push, Pop, Swap}
-use Rattle.page.specs.declared.Kind.{Kind}
-use Rattle.page.specs.declared.Mode.the-variants.{User, Supervisor, Machine}
-use Rattle.page.specs.declared.Mode.{Mode}
+use Rattle.isa.specs.declared.Kind.the-variants.{Fetch, Load, Store, Push, Pop, Swap}
+use Rattle.isa.specs.declared.Kind.{Kind}
+use Rattle.isa.specs.declared.Mode.the-variants.{User, Supervisor, Machine}
+use Rattle.isa.specs.declared.Mode.{Mode}
 use Rattle.page.specs.declared.Regime.{Regime}
 use Rattle.leaf.specs.declared.Leaf.{Leaf}
 

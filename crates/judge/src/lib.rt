@@ -5,14 +5,14 @@ use leaf::has_right;
 use leaf::read_only;
 use leaf::shadow_page;
 use leaf::valid_leaf;
-use page::Kind;
-use page::Mode;
+use isa::Kind;
+use isa::Mode;
 use page::Regime;
 use page::kinds::is_fetch;
 use page::kinds::is_shadow;
 use page::kinds::writes;
 ghost use mathlib.Core.Path.{_≡_};
-ghost use Rattle.page.specs.declared.Kind.the-variants.{Fetch};
+ghost use Rattle.isa.specs.declared.Kind.the-variants.{Fetch};
 ghost use Rattle.leaf.specs.Leaf.{leafOf};
 ghost use Rattle.judge.specs.Judge.{userBit, offReadOnly, ownPage, readable, permits, accessedDirty, decideOf, judgeOf};
 

@@ -1,7 +1,7 @@
 // The usual grant: most accesses are granted on a few bits of the leaf's word, and only for the others are steps 5 to 8 asked one by one.
 // Each bit is taken from the word where it is asked for: that is what makes these tests quick.
-use page::Kind;
-use page::Mode;
+use isa::Kind;
+use isa::Mode;
 use page::Regime;
 ghost use mathlib.Core.Path.{_≡_};
 ghost use Rattle.leaf.specs.Leaf.{leafOf};

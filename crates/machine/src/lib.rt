@@ -3,8 +3,8 @@
 // Anything may be handed in: each call takes it, or answers with refusal 1 to 4 and changes nothing. The promises are stated in
 // crates/call/specs/Call.antt.
 use call::Answer;
+use engine::run;
 use hart::Hart;
-use hart::run;
 use meaning::Source;
 ghost use mathlib.Core.Path.{_≡_};
 ghost use Rattle.call.specs.Call.{stepFromCall, stepCall, stepWordCall, runCall};
@@ -14,7 +14,9 @@ fn stepped(h: Hart, source: Source, mem: &mut [u8], map: &[u64]) -> Answer
     ensures answer { λ r. ⌜ r ≡ stepFromCall source h (now (mem .entry)) (now (map .entry)) .answer ⌝ }
     ensures memory { λ _. ⌜ now (mem .exit) ≡ stepFromCall source h (now (mem .entry)) (now (map .entry)) .memory ⌝ }
 {
-    let n = call::refusal(h, mem, map);
+    let x = h.x;
+    let w = h.words;
+    let n = call::refusal(&x, &w, mem, map);
     if n == 0 {
         let r = h.step(source, mem, map);
         let g = r.hart;
@@ -50,9 +52,11 @@ pub fn run(h: Hart, mem: &mut [u8], map: &[u64], budget: u64) -> Answer
     ensures answer { λ r. ⌜ r ≡ runCall budget h (now (mem .entry)) (now (map .entry)) .answer ⌝ }
     ensures memory { λ _. ⌜ now (mem .exit) ≡ runCall budget h (now (mem .entry)) (now (map .entry)) .memory ⌝ }
 {
-    let n = call::run_refusal(h, mem, map, budget);
+    let x = h.x;
+    let w = h.words;
+    let n = call::run_refusal(&x, &w, mem, map, budget);
     if n == 0 {
-        let r = run::run(h, Source::Fetch, mem, map, budget);
+        let r = run::of_hart(h, Source::Fetch, mem, map, budget);
         let end = r.hart;
         return Answer {
             refusal: 0,

@@ -19,8 +19,8 @@ use Rattle.isa.specs.declared.CsrOperation.{CsrOperation}
 use Rattle.isa.specs.declared.CsrSource.{CsrSource}
 use Rattle.isa.specs.declared.Instruction.{Instruction}
 use Rattle.isa.specs.declared.Instruction.the-variants.{Illegal, Lui, Auipc, Jal, Jalr, Branch, Memory, OpImm, OpImm32, Op, Op32, Fence, Ecall, Ebreak, Sret, Mret, Csr, ReadSsp, MopR, MopRr}
-use Rattle.page.specs.declared.Mode.{Mode}
-use Rattle.page.specs.declared.Mode.the-variants.{User, Supervisor, Machine}
+use Rattle.isa.specs.declared.Mode.{Mode}
+use Rattle.isa.specs.declared.Mode.the-variants.{User, Supervisor, Machine}
 use Rattle.address.specs.Access.{kindOf}
 use Rattle.place.specs.Place.{placeOf}
 use Rattle.place.specs.declared.Physical.{Physical}
@@ -39,7 +39,7 @@ use Rattle.effect.specs.Register.{regOf}
 use Rattle.effect.specs.System.{mretOf, sretOf}
 use Rattle.effect.specs.declared.Effect.{Effect}
 use Rattle.effect.specs.declared.Effect.the-variants as effect
-use Rattle.effect.specs.declared.Setting.{Setting}
+use Rattle.regime.specs.declared.Setting.{Setting}
 use Rattle.meaning.specs.declared.Source.{Source}
 use Rattle.effect.specs.declared.Whole.{Whole}
 use Rattle.effect.specs.declared.Whole.the-variants as whole

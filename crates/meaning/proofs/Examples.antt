@@ -5,7 +5,7 @@ use mathlib.Core.Path.{_≡_, refl}
 use Prim.Native.Nat.{ℕ}
 use Rattle.effect.specs.Jump.{jalOf}
 use Rattle.effect.specs.declared.Effect.the-variants.{Write}
-use Rattle.effect.specs.declared.Setting.{Setting}
+use Rattle.regime.specs.declared.Setting.{Setting}
 use Rattle.isa.specs.declared.Instruction.the-variants.{Jal}
 use Rattle.meaning.specs.Instruction.{nextOf, executeOf}
 

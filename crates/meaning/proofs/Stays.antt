@@ -17,8 +17,8 @@ use Rattle.isa.specs.declared.CsrOperation.{CsrOperation}
 use Rattle.isa.specs.declared.CsrSource.{CsrSource}
 use Rattle.isa.specs.declared.Instruction.{Instruction}
 use Rattle.isa.specs.declared.Instruction.the-variants.{Illegal, Lui, Auipc, Jal, Jalr, Branch, Memory, OpImm, OpImm32, Op, Op32, Fence, Ecall, Ebreak, Sret, Mret, Csr, ReadSsp, MopR, MopRr}
-use Rattle.page.specs.declared.Mode.{Mode}
-use Rattle.page.specs.declared.Mode.the-variants.{User, Supervisor, Machine}
+use Rattle.isa.specs.declared.Mode.{Mode}
+use Rattle.isa.specs.declared.Mode.the-variants.{User, Supervisor, Machine}
 use Rattle.address.specs.Access.{kindOf}
 use Rattle.place.specs.declared.Physical.{Physical}
 use Rattle.place.specs.declared.Place.{Place}
@@ -38,7 +38,7 @@ use Rattle.meaning.specs.Plan.{fetchedOf, isPad, landedOf, arrivedOf, ef
 use Rattle.effect.specs.Register.{regOf}
 use Rattle.effect.specs.System.{mretOf, sretOf}
 use Rattle.effect.specs.declared.Effect.{Effect}
-use Rattle.effect.specs.declared.Setting.{Setting}
+use Rattle.regime.specs.declared.Setting.{Setting}
 use Rattle.meaning.specs.declared.Source.{Source}
 use Rattle.transfer.specs.declared.access.Gate.{Gate}
 use Rattle.transfer.specs.declared.access.Gate.the-variants as gate

@@ -14,7 +14,7 @@ use Rattle.effect.specs.Csrs.{csrOf}
 use Rattle.effect.specs.Jump.{jalOf, jalrOf, branchOf}
 use Rattle.effect.specs.Register.{regOf}
 use Rattle.effect.specs.System.{trapWith, mretOf, sretOf}
-use Rattle.effect.specs.declared.Setting.{Setting}
+use Rattle.regime.specs.declared.Setting.{Setting}
 use Rattle.effect.specs.declared.Effect.{Effect}
 use Rattle.effect.specs.declared.Effect.the-variants.{Write}
 

@@ -8,7 +8,7 @@ use Rattle.word.specs.Choice.{pick}
 use Rattle.word.specs.Field.{bits}
 use Rattle.decoder.specs.Decode.{decodeOf}
 use Rattle.isa.specs.declared.Width.the-variants as width
-use Rattle.page.specs.declared.Kind.the-variants as kind
+use Rattle.isa.specs.declared.Kind.the-variants as kind
 use Rattle.place.specs.Place.{placeOf}
 use Rattle.address.specs.declared.control.Control.{Control}
 use Rattle.place.specs.declared.Place.{Place}
@@ -16,7 +16,7 @@ use Rattle.place.specs.declared.Place.the-variants as place
 use Rattle.transfer.specs.Access.{readOf}
 use Rattle.meaning.specs.Instruction.{nextOf, executeOf}
 use Rattle.effect.specs.Register.{regOf}
-use Rattle.effect.specs.declared.Setting.{Setting}
+use Rattle.regime.specs.declared.Setting.{Setting}
 use Rattle.meaning.specs.declared.Source.{Source}
 use Rattle.meaning.specs.declared.Source.the-variants as source
 use Rattle.meaning.specs.declared.Fetched.{Fetched}

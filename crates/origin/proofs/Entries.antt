@@ -11,7 +11,7 @@ use Rattle.isa.specs.declared.Width.{Width}
 use Rattle.leaf.specs.Leaf.{leafOf}
 use Rattle.judge.proofs.Grants.{Held, held}
 use Rattle.page.proofs.Entries.{lookup-stands}
-use Rattle.page.specs.declared.Kind.{Kind}
+use Rattle.isa.specs.declared.Kind.{Kind}
 use Rattle.address.specs.Control.{modeOf, pagedOf, regimeOf}
 use Rattle.address.specs.Mask.{transformedOf}
 use Rattle.address.specs.declared.control.Control.{Control}

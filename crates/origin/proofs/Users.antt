@@ -6,9 +6,9 @@ use mathlib.Core.Path.{_≡_, refl, _∙_}
 use Prim.Native.Nat.{ℕ, _/_, _^_}
 use borrow.Author.Tests.{eq-eqb}
 use Rattle.isa.specs.declared.CsrOperation.{CsrOperation}
-use Rattle.page.specs.declared.Kind.{Kind}
-use Rattle.page.specs.declared.Kind.the-variants.{Fetch, Load, Store, Push, Pop, Swap}
-use Rattle.page.specs.declared.Mode.the-variants.{User}
+use Rattle.isa.specs.declared.Kind.{Kind}
+use Rattle.isa.specs.declared.Kind.the-variants.{Fetch, Load, Store, Push, Pop, Swap}
+use Rattle.isa.specs.declared.Mode.the-variants.{User}
 use Rattle.address.specs.Control as control
 use Rattle.address.specs.Control.{pagedOf}
 use Rattle.address.specs.declared.control.Control.{Control}

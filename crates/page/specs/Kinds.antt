@@ -1,7 +1,7 @@
 -- What the rules ask of a kind of access.
 use mathlib.Core.Bool.{Bool, true, false}
-use Rattle.page.specs.declared.Kind.the-variants.{Fetch, Load, Store, Push, Pop, Swap}
-use Rattle.page.specs.declared.Kind.{Kind}
+use Rattle.isa.specs.declared.Kind.the-variants.{Fetch, Load, Store, Push, Pop, Swap}
+use Rattle.isa.specs.declared.Kind.{Kind}
 
 abbrev pub isShadow : Kind → Bool
 isShadow Fetch = false

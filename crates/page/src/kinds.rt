@@ -1,5 +1,5 @@
 // What the rules ask of a kind of access: is it a fetch, a shadow access, does it write.
-use super::Kind;
+use isa::Kind;
 ghost use mathlib.Core.Path.{_≡_};
 ghost use Rattle.page.specs.Kinds.{isShadow, isFetch, writes};
 

@@ -2,27 +2,12 @@
 //
 // Lookup of a page number and judgement of a leaf (crate `judge`) are kept apart: how an entry is found can change without a
 // word about what it permits.
+use isa::Mode;
 
 // What the rules ask of a kind of access.
 pub mod kinds;
 // The page map: lookup of a page number, and refusal 3.
 pub mod map;
-
-// What an access is for.
-pub enum Kind {
-    Fetch,
-    Load,
-    Store,
-    Push,
-    Pop,
-    Swap,
-}
-
-pub enum Mode {
-    User,
-    Supervisor,
-    Machine,
-}
 
 // What a leaf is judged by, beside the kind of access: the effective mode, SUM, MXR and menvcfg.SSE.
 pub struct Regime {

@@ -7,7 +7,7 @@ use Prim.Native.Nat.{ℕ}
 use Rattle.word.specs.Choice.{pick}
 use Rattle.isa.specs.declared.Width.{Width}
 use Rattle.page.specs.Map.{lookupOf}
-use Rattle.page.specs.declared.Kind.{Kind}
+use Rattle.isa.specs.declared.Kind.{Kind}
 use Rattle.page.specs.declared.Regime.{Regime}
 use Rattle.page.specs.declared.map.Found.{Found}
 use Rattle.page.specs.declared.map.Found.the-variants.{Absent}

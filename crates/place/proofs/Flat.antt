@@ -12,9 +12,9 @@ use Rattle.isa.specs.Size.{sizeOf}
 use Rattle.isa.specs.declared.Width.the-variants.{Word}
 use Rattle.isa.specs.declared.Width.{Width}
 use Rattle.page.specs.Kinds.{isFetch, isShadow}
-use Rattle.page.specs.declared.Kind.the-variants.{Fetch, Load, Store, Push, Pop, Swap}
-use Rattle.page.specs.declared.Kind.{Kind}
-use Rattle.page.specs.declared.Mode.{Mode}
+use Rattle.isa.specs.declared.Kind.the-variants.{Fetch, Load, Store, Push, Pop, Swap}
+use Rattle.isa.specs.declared.Kind.{Kind}
+use Rattle.isa.specs.declared.Mode.{Mode}
 use Rattle.address.proofs.Masking.{mask-none}
 use Rattle.address.specs.Align.{alignedOf}
 use Rattle.address.specs.Cause.{misalignedOf}

@@ -13,7 +13,7 @@ use Rattle.leaf.specs.Leaf.{leafOf}
 use Rattle.judge.specs.Judge.{judgeOf}
 use Rattle.judge.specs.declared.Verdict.the-variants.{Granted}
 use Rattle.page.specs.Map.{lookupOf}
-use Rattle.page.specs.declared.Kind.{Kind}
+use Rattle.isa.specs.declared.Kind.{Kind}
 use Rattle.page.specs.declared.Regime.{Regime}
 use Rattle.page.specs.declared.map.Found.the-variants.{Leaf}
 use Rattle.place.specs.Place.{base, withinOf, insideOf, canonicalOf, pageNumber, physicalOf, settleOf, throughOf, pagedPlaceOf}

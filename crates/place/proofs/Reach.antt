@@ -18,9 +18,9 @@ use Rattle.page.specs.Kinds.{isShadow}
 use Rattle.leaf.specs.Leaf.{leafOf, shadowPage}
 use Rattle.judge.specs.Judge.{judgeOf}
 use Rattle.page.specs.Map.{lookupOf}
-use Rattle.page.specs.declared.Kind.the-variants.{Store}
-use Rattle.page.specs.declared.Kind.{Kind}
-use Rattle.page.specs.declared.Mode.{Mode}
+use Rattle.isa.specs.declared.Kind.the-variants.{Store}
+use Rattle.isa.specs.declared.Kind.{Kind}
+use Rattle.isa.specs.declared.Mode.{Mode}
 use Rattle.page.specs.declared.Regime.{Regime}
 use Rattle.judge.specs.declared.Verdict.the-variants.{Granted, PageFault, AccessFault}
 use Rattle.judge.specs.declared.Verdict.{Verdict}

@@ -5,7 +5,7 @@ use mathlib.Core.List.{List}
 use mathlib.Core.Path.{_≡_}
 use Prim.Native.Nat.{ℕ}
 use Rattle.isa.specs.declared.Width.{Width}
-use Rattle.page.specs.declared.Kind.{Kind}
+use Rattle.isa.specs.declared.Kind.{Kind}
 use Rattle.address.specs.Control.{modeOf, unmaskedOf}
 use Rattle.address.specs.Mask.{transformedOf}
 use Rattle.address.specs.declared.control.Control.{Control}

@@ -7,7 +7,7 @@ use Prim.Native.Nat.{ℕ, _+_, _-_, _%_, _^_, _<_, _≤_}
 use native.Mathlib.Omega.{arith}
 use borrow.Author.Tests.{eq-eqb, not-false}
 use Rattle.isa.specs.declared.Width.the-variants.{Word}
-use Rattle.page.specs.declared.Kind.the-variants.{Fetch}
+use Rattle.isa.specs.declared.Kind.the-variants.{Fetch}
 use Rattle.address.specs.Align.{alignedOf}
 use Rattle.address.specs.Control.{bareOf, modeOf, pagedOf, regimeOf}
 use Rattle.address.specs.Mask.{transformedOf}

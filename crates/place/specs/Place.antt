@@ -15,8 +15,8 @@ use Rattle.page.specs.Kinds.{isShadow}
 use Rattle.leaf.specs.Leaf.{leafOf}
 use Rattle.judge.specs.Judge.{judgeOf}
 use Rattle.page.specs.Map.{lookupOf}
-use Rattle.page.specs.declared.Kind.{Kind}
-use Rattle.page.specs.declared.Mode.{Mode}
+use Rattle.isa.specs.declared.Kind.{Kind}
+use Rattle.isa.specs.declared.Mode.{Mode}
 use Rattle.page.specs.declared.Regime.{Regime}
 use Rattle.judge.specs.declared.Verdict.{Verdict}
 use Rattle.judge.specs.declared.Verdict.the-variants.{Granted, PageFault, AccessFault}

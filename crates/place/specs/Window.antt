@@ -6,7 +6,7 @@ use Prim.Native.Nat.{ℕ, _+_, _-_, _%_, _^_, _<_, _≤_}
 use lib.Dec.{ltb}
 use Rattle.word.specs.Sum.{differenceOf}
 use Rattle.isa.specs.declared.Width.the-variants.{Word}
-use Rattle.page.specs.declared.Kind.the-variants.{Fetch}
+use Rattle.isa.specs.declared.Kind.the-variants.{Fetch}
 use Rattle.address.specs.declared.control.Control.{Control}
 use Rattle.place.specs.Place.{base, placeOf}
 use Rattle.place.specs.declared.Place.the-variants.{At}

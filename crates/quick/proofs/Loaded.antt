@@ -13,7 +13,7 @@ use Rattle.isa.specs.declared.Instruction.{Instruction}
 use Rattle.isa.specs.declared.Instruction.the-variants.{Memory}
 use Rattle.isa.specs.declared.Width.{Width}
 use Rattle.memory.specs.Extend.{extendOf}
-use Rattle.page.specs.declared.Kind.the-variants as kind
+use Rattle.isa.specs.declared.Kind.the-variants as kind
 use Rattle.address.specs.Control.{flatOf}
 use Rattle.place.proofs.Flat.{data-flat}
 use Rattle.place.specs.Place.{placeOf, flatPlaceOf}
@@ -22,7 +22,7 @@ use Rattle.place.specs.declared.Place.the-variants.{At}
 use Rattle.transfer.specs.Access.{readOf, doneOf, atOf, passedOf, accessOf}
 use Rattle.effect.specs.Register.{regOf, putOf}
 use Rattle.effect.specs.declared.Effect.the-variants.{Write}
-use Rattle.effect.specs.declared.Setting.{Setting}
+use Rattle.regime.specs.declared.Setting.{Setting}
 use Rattle.meaning.specs.Instruction.{nextOf, executeOf}
 use Rattle.quick.specs.Quick.{Does, Loads}
 use Rattle.quick.specs.declared.Tried.{Tried}

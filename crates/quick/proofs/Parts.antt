@@ -11,7 +11,7 @@ use Rattle.isa.specs.declared.Access.the-variants.{Load, Store, Push, Pop}
 use Rattle.isa.specs.declared.Instruction.the-variants.{Memory}
 use Rattle.isa.specs.declared.Width.{Width}
 use Rattle.isa.specs.declared.Width.the-variants.{Word, Double}
-use Rattle.page.specs.declared.Kind.the-variants as kind
+use Rattle.isa.specs.declared.Kind.the-variants as kind
 use Rattle.address.specs.Stack.{pushOf}
 use Rattle.place.specs.Place.{placeOf}
 use Rattle.place.specs.declared.Physical.{Physical}
@@ -21,7 +21,7 @@ use Rattle.transfer.specs.Access.{readOf, doneOf, atOf, passedOf, accessOf}
 use Rattle.transfer.specs.declared.access.Gate.{Gate}
 use Rattle.transfer.specs.declared.access.Gate.the-variants.{Open, Off}
 use Rattle.effect.specs.Register.{regOf}
-use Rattle.effect.specs.declared.Setting.{Setting}
+use Rattle.regime.specs.declared.Setting.{Setting}
 use Rattle.meaning.specs.Instruction.{nextOf, executeOf}
 use Rattle.meaning.specs.Plan.{wordAt}
 use Rattle.meaning.specs.declared.Fetched.the-variants as fetched

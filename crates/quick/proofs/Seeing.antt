@@ -8,7 +8,7 @@ use lib.ListN.{length}
 use Rattle.word.specs.Sum.{differenceOf}
 use Rattle.isa.specs.declared.Width.the-variants.{Word}
 use Rattle.memory.specs.Bytes.{loadOf}
-use Rattle.page.specs.declared.Kind.the-variants as kind
+use Rattle.isa.specs.declared.Kind.the-variants as kind
 use Rattle.address.specs.declared.control.Control.{Control}
 use Rattle.place.specs.Place.{base, placeOf}
 use Rattle.place.specs.Window.{Shows}

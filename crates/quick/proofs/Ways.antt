@@ -14,7 +14,7 @@ use Rattle.isa.specs.declared.Access.{Access}
 use Rattle.isa.specs.declared.Access.the-variants.{Pop}
 use Rattle.isa.specs.declared.Instruction.{Instruction}
 use Rattle.isa.specs.declared.Width.the-variants.{Double}
-use Rattle.page.specs.declared.Kind.the-variants.{Fetch}
+use Rattle.isa.specs.declared.Kind.the-variants.{Fetch}
 use Rattle.address.specs.Cause.{misalignedOf}
 use Rattle.place.specs.declared.Physical.{Physical}
 use Rattle.place.specs.declared.Place.{Place}

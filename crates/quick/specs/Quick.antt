@@ -13,7 +13,7 @@ use Rattle.isa.specs.declared.Instruction.{Instruction}
 use Rattle.address.specs.Control.{flatOf}
 use Rattle.transfer.specs.Commit.{memoryOf}
 use Rattle.effect.specs.Register.{regOf, putOf}
-use Rattle.effect.specs.declared.Setting.{Setting}
+use Rattle.regime.specs.declared.Setting.{Setting}
 use Rattle.effect.specs.declared.Effect.{Effect}
 use Rattle.effect.specs.declared.Effect.the-variants.{Write, Jump, Pad, Store, Push, Pop, Swap, Whole, Trap}
 use Rattle.meaning.specs.Instruction.{nextOf, executeOf}

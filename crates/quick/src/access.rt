@@ -7,12 +7,12 @@ use super::compute::undone;
 use super::compute::wrote;
 use address::Virtual;
 use address::control::Control;
-use effect::Setting;
+use regime::Setting;
 use effect::register::reg;
 use isa::Access;
 use isa::Instruction;
 use isa::Width;
-use page::Kind;
+use isa::Kind;
 use place::Place;
 use place::steps;
 use value::Value;
@@ -20,6 +20,8 @@ use word::field;
 use word::field::Fields;
 use word::immediate;
 use word::sum;
+use words::COUNT;
+use words::SSP;
 ghost use mathlib.Core.Bool.{true};
 ghost use mathlib.Core.List.{List};
 ghost use mathlib.Core.Path.{_≡_};
@@ -31,14 +33,14 @@ ghost use Rattle.isa.specs.declared.Access.the-variants as access;
 ghost use Rattle.isa.specs.declared.Instruction.the-variants.{Memory};
 ghost use Rattle.isa.specs.declared.Width.the-variants.{Double};
 ghost use Rattle.base.specs.Base.{loadOf, storeOf};
-ghost use Rattle.page.specs.declared.Kind.the-variants as kind;
+ghost use Rattle.isa.specs.declared.Kind.the-variants as kind;
 ghost use Rattle.address.specs.Control.{flatOf};
 ghost use Rattle.address.specs.Stack.{pushOf};
 ghost use Rattle.decoder.specs.System.{systemOf};
 ghost use Rattle.place.specs.Place.{placeOf};
 ghost use Rattle.transfer.specs.Access.{atOf};
 ghost use Rattle.meaning.specs.Instruction.{nextOf, executeOf};
-ghost use Rattle.effect.specs.declared.Setting as setting;
+ghost use Rattle.regime.specs.declared.Setting as setting;
 ghost use Rattle.quick.specs.Quick.{Does, Loads};
 
 // A load from address a.
@@ -187,11 +189,11 @@ pub fn store(
 }
 
 // A push of v: to ssp - 8, which is then ssp.
-fn push(v: u64, pc: u64, rest: &mut [u64; 20], c: Control, mem: &mut [u8], map: &[u64]) -> Tried
+fn push(v: u64, pc: u64, rest: &mut [u64; COUNT], c: Control, mem: &mut [u8], map: &[u64]) -> Tried
     requires { ⌜ length (now mem) ≤ 2 ^ 20 ⌝ }
     ensures { λ r. ⌜ ((x : List ℕ) → Does (r .done) (atOf access.Push (placeOf c kind.Push Double (pushOf (getD (now (rest .entry)) 3 0)) (now (map .entry)) (length (now (mem .entry)))) 0 0 v (getD (now (rest .entry)) 3 0) (nextOf pc) (now (mem .entry))) x (now (rest .entry)) (now (mem .entry)) (r .pc) x (now (rest .exit)) (now (mem .exit))) ⌝ }
 {
-    let top = sum::difference(rest[3], 8);
+    let top = sum::difference(rest[SSP], 8);
     match steps::translate(
         c,
         Kind::Push,
@@ -202,7 +204,7 @@ fn push(v: u64, pc: u64, rest: &mut [u64; 20], c: Control, mem: &mut [u8], map: 
     ) {
         Place::At(q) => {
             memory::store(mem, q.index(), Width::Double, v);
-            rest[3] = top;
+            rest[SSP] = top;
             Tried {
                 done: true,
                 pc: sum::sum(pc, 4),
@@ -213,11 +215,11 @@ fn push(v: u64, pc: u64, rest: &mut [u64; 20], c: Control, mem: &mut [u8], map: 
 }
 
 // A pop-check of v: at ssp, which goes up by 8 where v is found.
-fn pop(v: u64, pc: u64, rest: &mut [u64; 20], c: Control, mem: &[u8], map: &[u64]) -> Tried
+fn pop(v: u64, pc: u64, rest: &mut [u64; COUNT], c: Control, mem: &[u8], map: &[u64]) -> Tried
     requires { ⌜ length (now mem) ≤ 2 ^ 20 ⌝ }
     ensures { λ r. ⌜ ((x : List ℕ) → Does (r .done) (atOf access.Pop (placeOf c kind.Pop Double (getD (now (rest .entry)) 3 0) (now (map .entry)) (length (now (mem .entry)))) 0 v 0 (getD (now (rest .entry)) 3 0) (nextOf pc) (now (mem .entry))) x (now (rest .entry)) (now (mem .entry)) (r .pc) x (now (rest .exit)) (now (mem .entry))) ⌝ }
 {
-    let ssp = rest[3];
+    let ssp = rest[SSP];
     match steps::translate(
         c,
         Kind::Pop,
@@ -228,7 +230,7 @@ fn pop(v: u64, pc: u64, rest: &mut [u64; 20], c: Control, mem: &[u8], map: &[u64
     ) {
         Place::At(q) => {
             if memory::load(mem, q.index(), Width::Double) == v {
-                rest[3] = sum::sum(ssp, 8);
+                rest[SSP] = sum::sum(ssp, 8);
                 return Tried {
                     done: true,
                     pc: sum::sum(pc, 4),
@@ -245,7 +247,7 @@ fn pop(v: u64, pc: u64, rest: &mut [u64; 20], c: Control, mem: &[u8], map: &[u64
 pub fn shadow(
     w: u32,
     x: &[u64; 32],
-    rest: &mut [u64; 20],
+    rest: &mut [u64; COUNT],
     pc: u64,
     s: Setting,
     mem: &mut [u8],

@@ -2,9 +2,10 @@
 use super::Tried;
 use super::access;
 use super::compute;
-use effect::Setting;
+use regime::Setting;
 use place::window::Window;
 use word::sum;
+use words::COUNT;
 ghost use mathlib.Core.List.{List};
 ghost use mathlib.Core.Path.{_≡_};
 ghost use Prim.Native.Nat.{ℕ, _+_, _-_, _^_, _≤_};
@@ -50,7 +51,7 @@ pub fn fetch(v: Window, pc: u64, mem: &[u8]) -> Seen
 pub fn word(
     w: u32,
     x: &mut [u64; 32],
-    rest: &mut [u64; 20],
+    rest: &mut [u64; COUNT],
     pc: u64,
     flat: bool,
     s: Setting,

@@ -10,6 +10,15 @@ use status::mode;
 ghost use mathlib.Core.Path.{_≡_};
 ghost use Rattle.regime.specs.Regime.{controlOf, shadowOn, padOn};
 
+// What a hart's mode and CSRs say about an instruction, beside its accesses: the active shadow enable, whether ssp
+// may be touched as a CSR (and the swap is legal), and the pad enable.
+pub struct Setting {
+    pub control: Control,
+    pub shadow: bool,
+    pub permitted: bool,
+    pub pad: bool,
+}
+
 // The regime of accesses.
 pub fn control(
     mode: u64,

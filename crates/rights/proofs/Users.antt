@@ -5,7 +5,7 @@ use mathlib.Core.Bool.{Bool, true, false, _||_}
 use Prim.Native.Nat.{ℕ}
 use Rattle.word.specs.Choice.{pick, look, every}
 use Rattle.word.proofs.Tables.{checked}
-use Rattle.page.specs.declared.Mode.the-variants.{User}
+use Rattle.isa.specs.declared.Mode.the-variants.{User}
 use Rattle.rights.specs.Reach.{addresses, below, reachOf}
 use Rattle.csr.specs.declared.Csr.{Csr}
 use Rattle.csr.specs.declared.Csr.the-variants.{Ssp, Sstatus, Stvec, Senvcfg, Sscratch, Sepc, Scause, Stval, Satp, Mstatus, Medeleg, Mtvec, Menvcfg, Mscratch, Mepc, Mcause, Mtval, Mseccfg}

@@ -1,8 +1,8 @@
 -- What menvcfg, senvcfg and mseccfg switch on, by the mode.
 use mathlib.Core.Bool.{Bool, true, false, _&&_}
 use Prim.Native.Nat.{ℕ}
-use Rattle.page.specs.declared.Mode.{Mode}
-use Rattle.page.specs.declared.Mode.the-variants.{User, Supervisor, Machine}
+use Rattle.isa.specs.declared.Mode.{Mode}
+use Rattle.isa.specs.declared.Mode.the-variants.{User, Supervisor, Machine}
 use Rattle.word.specs.Row.{bitOf}
 
 -- SSE of an envcfg

@@ -1,7 +1,7 @@
 -- What cause and tval hold of an exception that an instruction makes by itself. An access's are `Rattle.address.specs.Cause`.
 use Prim.Native.Nat.{ℕ}
-use Rattle.page.specs.declared.Mode.{Mode}
-use Rattle.page.specs.declared.Mode.the-variants.{User, Supervisor, Machine}
+use Rattle.isa.specs.declared.Mode.{Mode}
+use Rattle.isa.specs.declared.Mode.the-variants.{User, Supervisor, Machine}
 use Rattle.rights.specs.declared.exception.Exception.{Exception}
 
 -- illegal: tval the word; the manual's cause is 2

@@ -1,5 +1,5 @@
 // What menvcfg, senvcfg and mseccfg switch on, by the mode.
-use page::Mode;
+use isa::Mode;
 ghost use mathlib.Core.Path.{_≡_};
 ghost use Rattle.rights.specs.Enable.{sseOf, bySse, byMode, shadowOf, permitsOf, padOf};
 

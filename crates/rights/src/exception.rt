@@ -1,5 +1,5 @@
 // What cause and tval hold of an exception that an instruction makes by itself.
-use page::Mode;
+use isa::Mode;
 ghost use mathlib.Core.Path.{_≡_};
 ghost use Rattle.rights.specs.Exception.{illegalOf, breakpointOf, callOf};
 

@@ -1,6 +1,6 @@
 // Which CSR an address names, and whether a mode may touch it.
 use csr::Csr;
-use page::Mode;
+use isa::Mode;
 use status::mode;
 ghost use mathlib.Core.Path.{_≡_};
 ghost use Rattle.word.specs.Choice.{look};

@@ -1,8 +1,8 @@
 -- The kind of access that a number in a file of cases stands for.
 use Prim.Native.Nat.{ℕ}
 use Rattle.word.specs.Choice.{Table, _⇒_¦_, otherwise, look}
-use Rattle.page.specs.declared.Kind.{Kind}
-use Rattle.page.specs.declared.Kind.the-variants.{Fetch, Load, Store, Push, Pop, Swap}
+use Rattle.isa.specs.declared.Kind.{Kind}
+use Rattle.isa.specs.declared.Kind.the-variants.{Fetch, Load, Store, Push, Pop, Swap}
 
 abbrev pub kinds : Table Kind
 kinds = 0 ⇒ Fetch ¦ 1 ⇒ Load ¦ 2 ⇒ Store ¦ 3 ⇒ Push ¦ 4 ⇒ Pop ¦ otherwise Swap

@@ -13,8 +13,8 @@ use address::Virtual;
 use address::control::Control;
 use lines::line::MOST;
 use lines::row;
-use page::Kind;
-use page::Mode;
+use isa::Kind;
+use isa::Mode;
 use place::Place;
 use place::steps;
 

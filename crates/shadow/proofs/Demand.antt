@@ -15,7 +15,7 @@ use Rattle.word.proofs.Bools.{both}
 use Rattle.word.specs.Choice.{pick}
 use Rattle.word.specs.Sum.{sumOf}
 use Rattle.isa.specs.declared.Width.the-variants.{Double}
-use Rattle.page.specs.declared.Kind.the-variants as kind
+use Rattle.isa.specs.declared.Kind.the-variants as kind
 use Rattle.place.proofs.Reach.{place-paged, shadow-paged, shadow-on-shadow}
 use Rattle.place.specs.declared.Physical.{Physical}
 use Rattle.address.specs.declared.control.Control.{Control}

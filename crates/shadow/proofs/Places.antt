@@ -15,10 +15,10 @@ use Rattle.isa.specs.declared.Width.{Width}
 use Rattle.judge.proofs.Grants.{Held, held, granted}
 use Rattle.leaf.specs.Leaf.{leafOf, shadowPage}
 use Rattle.judge.specs.Judge.{judgeOf, accessedDirty}
-use Rattle.page.specs.declared.Kind.the-variants as kind
-use Rattle.page.specs.declared.Kind.{Kind}
-use Rattle.page.specs.declared.Mode.the-variants.{User}
-use Rattle.page.specs.declared.Mode.{Mode}
+use Rattle.isa.specs.declared.Kind.the-variants as kind
+use Rattle.isa.specs.declared.Kind.{Kind}
+use Rattle.isa.specs.declared.Mode.the-variants.{User}
+use Rattle.isa.specs.declared.Mode.{Mode}
 use Rattle.page.specs.declared.Regime.{Regime}
 use Rattle.leaf.specs.declared.Leaf as leaf
 use Rattle.judge.specs.declared.Verdict.the-variants.{Granted}

@@ -12,9 +12,9 @@ use Rattle.word.proofs.Either.{either}
 use Rattle.word.specs.Sign.{signExtendOf}
 use Rattle.word.specs.Sum.{sumOf, differenceOf}
 use Rattle.isa.specs.declared.Width.the-variants.{Double}
-use Rattle.page.specs.declared.Kind.the-variants as kind
-use Rattle.page.specs.declared.Mode.the-variants.{User}
-use Rattle.page.specs.declared.Mode.{Mode}
+use Rattle.isa.specs.declared.Kind.the-variants as kind
+use Rattle.isa.specs.declared.Mode.the-variants.{User}
+use Rattle.isa.specs.declared.Mode.{Mode}
 use Rattle.place.proofs.Reach.{place-aligned, shadow-paged}
 use Rattle.address.specs.Control.{modeOf}
 use Rattle.address.specs.Mask.{pmlenOf, maskOf, transformedOf}

@@ -15,9 +15,9 @@ use Rattle.isa.specs.declared.Width.{Width}
 use Rattle.isa.specs.declared.Width.the-variants.{Double}
 use Rattle.memory.proofs.Stores.{length-store, byte-before, byte-after}
 use Rattle.memory.specs.Bytes.{storeOf}
-use Rattle.page.specs.declared.Kind.{Kind}
-use Rattle.page.specs.declared.Kind.the-variants as kind
-use Rattle.page.specs.declared.Mode.the-variants.{User}
+use Rattle.isa.specs.declared.Kind.{Kind}
+use Rattle.isa.specs.declared.Kind.the-variants as kind
+use Rattle.isa.specs.declared.Mode.the-variants.{User}
 use Rattle.place.proofs.Reach.{place-within}
 use Rattle.place.specs.Place.{base, placeOf}
 use Rattle.place.specs.declared.Physical.{Physical}

@@ -22,7 +22,7 @@ use Rattle.isa.specs.declared.Instruction.the-variants.{Auipc, Memory}
 use Rattle.isa.specs.declared.CsrOperation.{CsrOperation}
 use Rattle.isa.specs.declared.Width.{Width}
 use Rattle.isa.specs.declared.Width.the-variants.{Double}
-use Rattle.page.specs.declared.Kind.the-variants as kind
+use Rattle.isa.specs.declared.Kind.the-variants as kind
 use Rattle.csr.specs.declared.Csr.the-variants.{Ssp}
 use Rattle.address.specs.Stack.{pushOf}
 use Rattle.place.specs.Place.{placeOf}

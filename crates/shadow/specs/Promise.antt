@@ -28,7 +28,7 @@ use Rattle.isa.specs.declared.Instruction.the-variants as instruction
 use Rattle.isa.specs.declared.Width.{Width}
 use Rattle.isa.specs.declared.Width.the-variants.{Double}
 use Rattle.leaf.specs.Leaf.{leafOf, shadowPage}
-use Rattle.page.specs.declared.Kind.the-variants as kind
+use Rattle.isa.specs.declared.Kind.the-variants as kind
 use Rattle.place.specs.Place.{base, frameOf, placeOf}
 use Rattle.place.specs.declared.Physical.{Physical}
 use Rattle.address.specs.declared.control.Control.{Control}

@@ -3,21 +3,14 @@
 //
 // A hart is the words x and rest. Anything may be handed in; what a call leaves of every word and byte is stated in
 // specs/Boundary.antt, and what a load leaves in specs/Load.antt.
-use hart::engine;
-use hart::words;
+use engine::run;
 use meaning::Source;
+use words::COUNT;
+use words::flag;
 ghost use mathlib.Core.Path.{_≡_};
 ghost use mathlib.Core.List.{[], _∷_};
-ghost use Rattle.sporhulma.specs.Words.{noHart};
 ghost use Rattle.sporhulma.specs.Boundary.{stepLeft, stepWordLeft, runLeft, leftFrom};
 ghost use Rattle.sporhulma.specs.Load.{loadLeft};
-
-// elp is neither 0 nor 1.
-fn no_hart(rest: &[u64; 20]) -> bool
-    ensures { λ r. ⌜ r ≡ noHart (now (rest .entry)) ⌝ }
-{
-    1 < rest[2]
-}
 
 // A refusal's number, and count 0.
 fn refused(n: u64, answer: &mut [u64; 3]) -> u64
@@ -31,7 +24,7 @@ fn refused(n: u64, answer: &mut [u64; 3]) -> u64
 // A run whose first word comes from `source`. The caller's words are the hart: nothing is copied, in or out.
 fn call(
     x: &mut [u64; 32],
-    rest: &mut [u64; 20],
+    rest: &mut [u64; COUNT],
     source: Source,
     mem: &mut [u8],
     map: &[u64],
@@ -44,14 +37,10 @@ fn call(
     ensures memory { λ _. ⌜ now (mem .exit) ≡ leftFrom source budget (now (x .entry)) (now (rest .entry)) (now (mem .entry)) (now (map .entry)) .memory ⌝ }
     ensures answer { λ _. ⌜ now (answer .exit) ≡ leftFrom source budget (now (x .entry)) (now (rest .entry)) (now (mem .entry)) (now (map .entry)) .answer ⌝ }
 {
-    if no_hart(rest) {
-        return refused(1, answer);
-    }
-    words::twenty(*rest);
-    let n = call::words::refusal(x, rest, mem, map, budget);
+    let n = call::run_refusal(x, rest, mem, map, budget);
     if n == 0 {
-        let t = engine::run(x, rest, source, mem, map, budget);
-        *answer = [t.count, words::flag(t.trapped), t.cause];
+        let t = run::run(x, rest, source, mem, map, budget);
+        *answer = [t.count, flag(t.trapped), t.cause];
         return 0;
     }
     refused(n, answer)
@@ -61,7 +50,7 @@ fn call(
 #[no_mangle]
 pub extern "C" fn sporhulma_step(
     x: &mut [u64; 32],
-    rest: &mut [u64; 20],
+    rest: &mut [u64; COUNT],
     mem: &mut [u8],
     map: &[u64],
     answer: &mut [u64; 3],
@@ -79,7 +68,7 @@ pub extern "C" fn sporhulma_step(
 #[no_mangle]
 pub extern "C" fn sporhulma_step_word(
     x: &mut [u64; 32],
-    rest: &mut [u64; 20],
+    rest: &mut [u64; COUNT],
     mem: &mut [u8],
     map: &[u64],
     word: u32,
@@ -98,7 +87,7 @@ pub extern "C" fn sporhulma_step_word(
 #[no_mangle]
 pub extern "C" fn sporhulma_run(
     x: &mut [u64; 32],
-    rest: &mut [u64; 20],
+    rest: &mut [u64; COUNT],
     mem: &mut [u8],
     map: &[u64],
     budget: u64,

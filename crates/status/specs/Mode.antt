@@ -1,8 +1,8 @@
 -- Modes and their numbers.
 use Prim.Native.Nat.{ℕ}
 use Rattle.word.specs.Choice.{Table, _⇒_¦_, otherwise, look}
-use Rattle.page.specs.declared.Mode.{Mode}
-use Rattle.page.specs.declared.Mode.the-variants.{User, Supervisor, Machine}
+use Rattle.isa.specs.declared.Mode.{Mode}
+use Rattle.isa.specs.declared.Mode.the-variants.{User, Supervisor, Machine}
 
 abbrev pub numberOf : Mode → ℕ
 numberOf User = 0

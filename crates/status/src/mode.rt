@@ -1,5 +1,5 @@
 // Modes and their numbers.
-use page::Mode;
+use isa::Mode;
 ghost use mathlib.Core.Path.{_≡_};
 ghost use Prim.Native.Nat.{_≤_};
 ghost use Rattle.status.specs.Mode.{numberOf, modeOf};

@@ -25,7 +25,7 @@ use Rattle.place.specs.declared.Place.{Place}
 use Rattle.place.specs.declared.Place.the-variants.{At, Fault}
 use Rattle.rights.specs.Exception.{illegalOf}
 use Rattle.effect.specs.System.{trapWith}
-use Rattle.effect.specs.declared.Setting.{Setting}
+use Rattle.regime.specs.declared.Setting.{Setting}
 use Rattle.effect.specs.declared.Effect.{Effect}
 use Rattle.effect.specs.declared.Effect.the-variants.{Write, Store, Push, Pop, Swap, Trap}
 use Rattle.transfer.specs.declared.access.Gate.{Gate}

@@ -3,7 +3,7 @@ use address::Virtual;
 use address::access;
 use address::stack;
 use effect::Effect;
-use effect::Setting;
+use regime::Setting;
 use effect::system;
 use isa::Access;
 use isa::Width;

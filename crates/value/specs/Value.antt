@@ -6,7 +6,7 @@ use Prim.Native.Nat.{ℕ}
 use Rattle.word.specs.declared.field.Fields.{Fields}
 use Rattle.isa.specs.declared.Instruction.{Instruction}
 use Rattle.effect.specs.Register.{regOf}
-use Rattle.effect.specs.declared.Setting.{Setting}
+use Rattle.regime.specs.declared.Setting.{Setting}
 use Rattle.effect.specs.declared.Effect.the-variants.{Write}
 use Rattle.meaning.specs.Instruction.{nextOf, executeOf}
 

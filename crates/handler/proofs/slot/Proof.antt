@@ -1,7 +1,7 @@
 -- `handler::slot` meets its contract: M's four from M, S's from S and from M. Assumes nothing.
 use mathlib.Core.Path.{refl}
 use borrow.Author.Needs.{needs}
-use Rattle.page.specs.declared.Mode.the-variants.{Supervisor, Machine}
+use Rattle.isa.specs.declared.Mode.the-variants.{Supervisor, Machine}
 use Rattle.status.specs.Mode.{modeOf}
 use Rattle.handler.proofs.Addresses.{machine, supervisor}
 use Rattle.handler.proofs.slot.Statement.{statement}

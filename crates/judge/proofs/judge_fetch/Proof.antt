@@ -1,6 +1,6 @@
 -- `judge::judge_fetch` meets its contract: what the usual grant grants, `judgeOf` grants. Assumes nothing.
 use mathlib.Core.Path.{sym, _∙_}
-use Rattle.page.specs.declared.Kind.the-variants.{Fetch}
+use Rattle.isa.specs.declared.Kind.the-variants.{Fetch}
 use Rattle.leaf.specs.Leaf.{leafOf}
 use Rattle.judge.proofs.Shortcut.{usual-granted}
 use borrow.Author.Needs.{needs}

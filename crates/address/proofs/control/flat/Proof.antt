@@ -3,8 +3,8 @@ use mathlib.Core.Bool.{Bool, true, false, _||_}
 use mathlib.Core.Path.{_≡_, refl, sym, _∙_}
 use Prim.Native.Nat.{ℕ}
 use borrow.Author.Tests.{ne-eqb}
-use Rattle.page.specs.declared.Kind.the-variants.{Load}
-use Rattle.page.specs.declared.Mode.{Mode}
+use Rattle.isa.specs.declared.Kind.the-variants.{Load}
+use Rattle.isa.specs.declared.Mode.{Mode}
 use Rattle.address.specs.Control.{modeOf, pmmOf, pagedOf, unmaskedOf, flatOf}
 use Rattle.address.specs.declared.control.Control.{Control}
 use borrow.Author.Needs.{needs}

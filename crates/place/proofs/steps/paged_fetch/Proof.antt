@@ -1,7 +1,7 @@
 -- `place::steps::paged_fetch` meets its contract: an entry or none. Assumes nothing.
 use mathlib.Core.Path.{sym, _∙_}
 use Rattle.isa.specs.declared.Width.the-variants.{Word}
-use Rattle.page.specs.declared.Kind.the-variants.{Fetch}
+use Rattle.isa.specs.declared.Kind.the-variants.{Fetch}
 use Rattle.place.proofs.Entry.{paged-through}
 use Rattle.place.specs.Place.{throughOf}
 use borrow.Author.Needs.{needs}

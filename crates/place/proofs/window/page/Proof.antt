@@ -3,7 +3,7 @@ use mathlib.Core.Path.{_≡_, sym, _∙_}
 use Prim.Native.Nat.{_-_, _%_}
 use native.Mathlib.Omega.{arith}
 use Rattle.isa.specs.declared.Width.the-variants.{Word}
-use Rattle.page.specs.declared.Kind.the-variants.{Fetch}
+use Rattle.isa.specs.declared.Kind.the-variants.{Fetch}
 use Rattle.place.specs.Place.{placeOf}
 use Rattle.place.specs.declared.Place.the-variants.{At}
 use Rattle.place.proofs.Reach.{place-within}

@@ -1,0 +1,96 @@
+-- A run, taken up in its middle: a turn of the loop, and the two ways out.
+-- Assumes nothing.
+use mathlib.Core.Bool.{Bool, true, false}
+use mathlib.Core.List.{List}
+use mathlib.Core.Path.{_≡_, refl, ap, _∙_}
+use Prim.Native.Nat.{ℕ, suc, _+_, _-_, _<_, _≤_}
+use native.Mathlib.Nat.{add-assoc}
+use native.Mathlib.Omega.{arith}
+use Rattle.effect.specs.declared.Effect.{Effect}
+use Rattle.effect.specs.declared.Effect.the-variants.{Write, Jump, Pad, Store, Push, Pop, Swap, Whole, Trap}
+use Rattle.meaning.specs.declared.Source.{Source}
+use Rattle.meaning.specs.declared.Source.the-variants.{Fetch}
+use Rattle.hart.specs.Run.{Run, after, stayed, once, followed, runFrom, Midway, ranOf, toldOf}
+use Rattle.transfer.specs.Commit.{memoryOf}
+use Rattle.hart.specs.Step.{Outcome, applyOf, trapsOf, causeOf, planOf, stepFrom}
+use Rattle.hart.specs.Trap.{trapOf}
+use Rattle.hart.specs.declared.Hart.{Hart}
+use Rattle.hart.specs.declared.engine.Told.{Told}
+use Rattle.hart.specs.declared.run.Ran.{Ran}
+
+pub start : (source : Source) (budget : ℕ) (h : Hart) (m map : List ℕ) → Midway (runFrom source budget h m map) budget budget source h m map
+start source budget h m map =
+    let e : budget - budget ≡ 0 = omega arith in
+    let z : 0 + runFrom source budget h m map .count ≡ runFrom source budget h m map .count = omega arith in
+    (omega arith, rw (e, z))
+
+turn : (source : Source) (k n : ℕ) (g : Hart) (m map : List ℕ) (e : Effect) → planOf source g m map ≡ e → trapsOf e ≡ false
+    → after k (runFrom source (suc n) g m map) ≡ after (k + 1) (runFrom Fetch n (applyOf e g) (memoryOf e m) map)
+unfolding runFrom stepFrom
+turn source k n g m map e p q = rw (p, q, ← add-assoc)
+
+last-turn : (source : Source) (k n : ℕ) (g : Hart) (m map : List ℕ) (c t : ℕ) → planOf source g m map ≡ Trap c t
+    → after k (runFrom source (suc n) g m map) ≡ record { hart = trapOf g c t; memory = m; count = k + 1; trapped = true; cause = c }
+unfolding runFrom stepFrom
+last-turn source k n g m map c t p = rw p
+
+module _ (whole : Run) (budget left : ℕ) (source : Source) (g : Hart) (m map : List ℕ) (now : Midway whole budget left source g m map) where
+  -- a step that does not trap
+  pub again : 0 < left → (e : Effect) → planOf source g m map ≡ e → trapsOf e ≡ false
+      → Midway whole budget (left - 1) Fetch (applyOf e g) (memoryOf e m) map
+  again h e p q =
+      let s : left ≡ suc (left - 1) = omega arith in
+      let k : budget - left + 1 ≡ budget - (left - 1) = omega arith in
+      (omega arith, now .1 ∙ ap (λ (n : ℕ). after (budget - left) (runFrom source n g m map)) s ∙ turn source (budget - left) (left - 1) g m map e p q ∙ rw k)
+
+  -- a step that traps
+  pub ended : 0 < left → (c t : ℕ) → planOf source g m map ≡ Trap c t
+      → whole ≡ record { hart = trapOf g c t; memory = m; count = budget - (left - 1); trapped = true; cause = c }
+  ended h c t p =
+      let s : left ≡ suc (left - 1) = omega arith in
+      let k : budget - left + 1 ≡ budget - (left - 1) = omega arith in
+      now .1 ∙ ap (λ (n : ℕ). after (budget - left) (runFrom source n g m map)) s ∙ last-turn source (budget - left) (left - 1) g m map c t p ∙ rw k
+
+  -- the budget is spent
+  pub spent : left ≤ 0 → whole ≡ record { hart = g; memory = m; count = budget; trapped = false; cause = 0 }
+  unfolding runFrom
+  spent h =
+      let z : left ≡ 0 = omega arith in
+      let k : budget - 0 + 0 ≡ budget = omega arith in
+      now .1 ∙ ap (λ (n : ℕ). after (budget - n) (runFrom source n g m map)) z ∙ rw k
+
+-- what was taken of what was left, was taken of the whole
+pub joined : (whole : Run) (budget left less : ℕ) (source : Source) (g h : Hart) (m n map : List ℕ)
+    → Midway whole budget left source g m map → Midway (runFrom source left g m map) left less source h n map
+    → Midway whole budget less source h n map
+joined whole budget left less source g h m n map a b =
+    let k : budget - left + (left - less) ≡ budget - less = omega (arith, a .0, b .0) in
+    (omega (arith, a .0, b .0), a .1 ∙ ap (λ (r : Run). after (budget - left) r) (b .1) ∙ rw (← add-assoc, k))
+
+-- a run of one step is that step
+
+followed-once : (t : Bool) (o : Outcome) → o .trapped ≡ t → (o .trapped ≡ false → o .cause ≡ 0)
+    → followed t o (stayed (o .hart) (o .memory)) ≡ once o
+followed-once true o e z = refl
+followed-once false o e z = rw (e, z e)
+
+no-cause : (e : Effect) → trapsOf e ≡ false → causeOf e ≡ 0
+no-cause (Write rd v next) q = refl
+no-cause (Jump rd link next elp) q = refl
+no-cause (Pad next) q = refl
+no-cause (Store r w v next) q = refl
+no-cause (Push r v ssp next) q = refl
+no-cause (Pop ssp next) q = refl
+no-cause (Swap rd old r w v next) q = refl
+no-cause (Whole k) q = refl
+no-cause (Trap c t) q = cc
+
+pub one-step : (source : Source) (h : Hart) (m map : List ℕ) → runFrom source 1 h m map ≡ once (stepFrom source h m map)
+unfolding runFrom stepFrom
+one-step source h m map =
+    followed-once (stepFrom source h m map .trapped) (stepFrom source h m map) refl (no-cause (planOf source h m map))
+
+-- a run as it is handed back, from its hart and its numbers
+pub ran : (run : Run) (h : Hart) (t : Told) → h ≡ run .hart → t ≡ toldOf run
+    → _≡_ {A = Ran} (record { hart = h; count = t .count; trapped = t .trapped; cause = t .cause }) (ranOf run)
+ran run h t e f = rw (e, f)

@@ -1,0 +1,109 @@
+-- One step: the effect of the instruction, applied to the hart and to memory. `stepOf` fetches, `stepWordOf` takes a word.
+--
+-- Below, h is the hart, m memory, e the effect.
+use mathlib.Core.Bool.{Bool, true, false}
+use mathlib.Core.List.{List}
+use Prim.Native.Nat.{ℕ}
+use Rattle.word.specs.Choice.{pick}
+use Rattle.isa.specs.declared.CsrOperation.{CsrOperation}
+use Rattle.csr.specs.declared.Csr.{Csr}
+use Rattle.effect.specs.Csrs.{mergedOf}
+use Rattle.meaning.specs.Plan.{effectOf}
+use Rattle.effect.specs.Register.{putOf}
+use Rattle.transfer.specs.Commit.{memoryOf}
+use Rattle.effect.specs.declared.Effect.{Effect}
+use Rattle.effect.specs.declared.Effect.the-variants.{Write, Jump, Pad, Store, Push, Pop, Swap, Trap}
+use Rattle.effect.specs.declared.Effect.the-variants as effect
+use Rattle.meaning.specs.declared.Source.{Source}
+use Rattle.meaning.specs.declared.Source.the-variants.{Fetch, Given}
+use Rattle.effect.specs.declared.Whole.{Whole}
+use Rattle.effect.specs.declared.Whole.the-variants as whole
+use Rattle.hart.specs.Access.{csrReadOf, csrWriteOf}
+use Rattle.bank.specs.Setting.{settingOf}
+use Rattle.hart.specs.Return.{mretOf, sretOf}
+use Rattle.hart.specs.Setters.{withPc, withX, withElp, withSsp}
+use Rattle.hart.specs.Trap.{trapOf}
+use Rattle.hart.specs.declared.Hart.{Hart}
+use Rattle.hart.specs.declared.step.Stepped.{Stepped}
+
+-- register rd becomes v
+abbrev pub withReg : (rd v : ℕ) → Hart → Hart
+withReg rd v h = withX (putOf rd v (h .x)) h
+
+-- the hart after CSR n took v, where the instruction writes
+unfoldable pub changedOf : (writes : Bool) → Csr → (v : ℕ) → Hart → Hart
+changedOf writes n v h = pick writes (csrWriteOf n v h) h
+
+-- a CSR instruction: rd takes what the CSR showed
+unfoldable pub csrOf : CsrOperation → Csr → (writes : Bool) → (v rd next : ℕ) → Hart → Hart
+csrOf o n writes v rd next h = withPc next (withReg rd (csrReadOf n h) (changedOf writes n (mergedOf o (csrReadOf n h) v) h))
+
+unfoldable pub wholeOf : Whole → Hart → Hart
+wholeOf (whole.Csr o n writes v rd next) h = csrOf o n writes v rd next h
+wholeOf whole.Mret h = mretOf h
+wholeOf whole.Sret h = sretOf h
+
+-- the hart after an effect
+abbrev pub applyOf : Effect → Hart → Hart
+applyOf (Write rd v next) h = withPc next (withReg rd v h)
+applyOf (Jump rd link next elp) h = withElp elp (withPc next (withReg rd link h))
+applyOf (Pad next) h = withElp false (withPc next h)
+applyOf (Store q w v next) h = withPc next h
+applyOf (Push q v ssp next) h = withPc next (withSsp ssp h)
+applyOf (Pop ssp next) h = withPc next (withSsp ssp h)
+applyOf (Swap rd old q w v next) h = withPc next (withReg rd old h)
+applyOf (effect.Whole k) h = wholeOf k h
+applyOf (Trap cause tval) h = trapOf h cause tval
+
+-- whether an effect is a trap
+abbrev pub trapsOf : Effect → Bool
+trapsOf (Write rd v next) = false
+trapsOf (Jump rd link next elp) = false
+trapsOf (Pad next) = false
+trapsOf (Store q w v next) = false
+trapsOf (Push q v ssp next) = false
+trapsOf (Pop ssp next) = false
+trapsOf (Swap rd old q w v next) = false
+trapsOf (effect.Whole k) = false
+trapsOf (Trap cause tval) = true
+
+-- its cause, and 0 where it is none
+abbrev pub causeOf : Effect → ℕ
+causeOf (Write rd v next) = 0
+causeOf (Jump rd link next elp) = 0
+causeOf (Pad next) = 0
+causeOf (Store q w v next) = 0
+causeOf (Push q v ssp next) = 0
+causeOf (Pop ssp next) = 0
+causeOf (Swap rd old q w v next) = 0
+causeOf (effect.Whole k) = 0
+causeOf (Trap cause tval) = cause
+
+-- what a step gives: the next hart and memory, and whether it trapped and with which cause
+pub record Outcome : Type 0 where
+  pub hart : Hart
+  pub memory : List ℕ
+  pub trapped : Bool
+  pub cause : ℕ
+
+abbrev pub outcomeOf : Effect → Hart → (m : List ℕ) → Outcome
+outcomeOf e h m = record { hart = applyOf e h; memory = memoryOf e m; trapped = trapsOf e; cause = causeOf e }
+
+-- the effect of the instruction
+abbrev pub planOf : Source → Hart → (m map : List ℕ) → Effect
+planOf source h m map = effectOf source (h .x) (h .pc) (h .elp) (h .ssp) (settingOf (h .mode) (h .csrs)) m map
+
+unfoldable pub stepFrom : Source → Hart → (m map : List ℕ) → Outcome
+stepFrom source h m map = outcomeOf (planOf source h m map) h m
+
+-- the step that fetches at pc
+abbrev pub stepOf : Hart → (m map : List ℕ) → Outcome
+stepOf h m map = stepFrom Fetch h m map
+
+-- the step that takes a given word as if it had been fetched there
+abbrev pub stepWordOf : (word : ℕ) → Hart → (m map : List ℕ) → Outcome
+stepWordOf word h m map = stepFrom (Given word) h m map
+
+-- an outcome as the code hands it back, memory apart
+abbrev pub steppedOf : Outcome → Stepped
+steppedOf o = record { hart = o .hart; trapped = o .trapped; cause = o .cause }

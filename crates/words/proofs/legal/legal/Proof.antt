@@ -1,0 +1,23 @@
+-- `legal::legal` meets its contract. Assumes nothing.
+use Rattle.words.specs.Legal.{wordsLegal}
+use borrow.Author.Needs.{needs}
+use Rattle.words.proofs.legal.legal.Statement.{statement}
+use Rattle.words.proofs.legal.legal.Tie as tie
+
+returns : tie.Need-returns
+unfolding wordsLegal
+returns c = rw (c .all .ensures, c .before .csrs .ensures, c .before .before .before .before .is-mode .ensures, c .before .before .before .before .before .before .before .sized .ensures)
+
+pub legal-spec : {M : Type 1} → statement M
+legal-spec =
+    tie.close
+    (tie.spec
+    (λ c κs. search needs)
+    (λ c. search needs)
+    (λ c. search needs)
+    (λ c κs. search needs)
+    (λ c. search needs)
+    (λ c. search needs)
+    (λ c κs. search needs)
+    (λ c κs. search needs)
+    returns)
