@@ -6,7 +6,6 @@ use mathlib.Core.Path.{_≡_, refl, sym, _∙_}
 use Prim.Native.Nat.{ℕ, _%_}
 use borrow.Author.Tests.{eq-eqb}
 use lib.Dec.{eqb}
-use lib.ListN.{set}
 use Rattle.word.specs.Choice.{pick}
 use Rattle.word.specs.Sum.{sumOf}
 use Rattle.word.specs.declared.field.Fields.{Fields}
@@ -24,6 +23,7 @@ use Rattle.effect.specs.Jump.{jalOf}
 use Rattle.effect.specs.Register.{putOf}
 use Rattle.effect.specs.declared.Effect.{Effect}
 use Rattle.effect.specs.declared.Effect.the-variants.{Write, Jump, Trap}
+use Rattle.words.specs.Words.{_but_≔_, SSP}
 use Rattle.quick.specs.Quick.{Applied, Does}
 use Rattle.quick.specs.declared.Tried.{Tried}
 
@@ -54,7 +54,7 @@ placed k p q rd a b ssp next x rest m pc' x' rest' m' e h = rw e h
 
 -- and a pop-check that found its value
 pub popped : (p : Place) (q : Physical) (v ssp next : ℕ) (x rest m : List ℕ) (pc' : ℕ) (rest' : List ℕ) → p ≡ At q → readOf m q Double ≡ v
-    → (pc' ≡ next) × (rest' ≡ set rest 3 (sumOf ssp 8))
+    → (pc' ≡ next) × (rest' ≡ rest but SSP ≔ sumOf ssp 8)
     → Applied (atOf Pop p 0 v 0 ssp next m) x rest m pc' x rest' m
 unfolding doneOf poppedOf
 popped p q v ssp next x rest m pc' rest' e f h =

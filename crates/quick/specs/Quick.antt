@@ -1,12 +1,11 @@
 -- What the quick way does with an instruction: it does all that the instruction's effect says, or it leaves everything as it was.
 --
--- Below, x are the registers, rest the hart's twenty other words, of which the fourth is ssp, m memory; a name with ' is what it
--- is afterwards. s is what the hart's mode and CSRs say.
+-- Below, x are the registers, rest the hart's other words, m memory; a name with ' is what it is afterwards.
+-- s is what the hart's mode and CSRs say.
 use mathlib.Core.Bool.{Bool, true, false}
 use mathlib.Core.List.{List}
 use mathlib.Core.Path.{_≡_}
 use Prim.Native.Nat.{ℕ}
-use lib.ListN.{set}
 use Rattle.word.specs.declared.field.Fields.{Fields}
 use Rattle.word.specs.Sum.{sumOf}
 use Rattle.isa.specs.declared.Instruction.{Instruction}
@@ -19,6 +18,7 @@ use Rattle.effect.specs.declared.Effect.the-variants.{Write, Jump, Pad, Store, 
 use Rattle.meaning.specs.Instruction.{nextOf, executeOf}
 use Rattle.meaning.specs.declared.Fetched.{Fetched}
 use Rattle.meaning.specs.declared.Fetched.the-variants as fetched
+use Rattle.words.specs.Words.{_but_≔_, SSP}
 use Rattle.quick.specs.declared.Tried.{Tried}
 use Rattle.quick.specs.declared.opcodes.Seen.{Seen}
 
@@ -32,8 +32,8 @@ Applied (Pad next) x rest m pc' x' rest' m' = ⊥
 Applied (Store q w v next) x rest m pc' x' rest' m' =
     (pc' ≡ next) × (x' ≡ x) × (rest' ≡ rest) × (m' ≡ memoryOf (Store q w v next) m)
 Applied (Push q v top next) x rest m pc' x' rest' m' =
-    (pc' ≡ next) × (x' ≡ x) × (rest' ≡ set rest 3 top) × (m' ≡ memoryOf (Push q v top next) m)
-Applied (Pop top next) x rest m pc' x' rest' m' = (pc' ≡ next) × (x' ≡ x) × (rest' ≡ set rest 3 top) × (m' ≡ m)
+    (pc' ≡ next) × (x' ≡ x) × (rest' ≡ rest but SSP ≔ top) × (m' ≡ memoryOf (Push q v top next) m)
+Applied (Pop top next) x rest m pc' x' rest' m' = (pc' ≡ next) × (x' ≡ x) × (rest' ≡ rest but SSP ≔ top) × (m' ≡ m)
 Applied (Swap rd old q w v next) x rest m pc' x' rest' m' = ⊥
 Applied (Whole k) x rest m pc' x' rest' m' = ⊥
 Applied (Trap cause tval) x rest m pc' x' rest' m' = ⊥

@@ -26,7 +26,7 @@ ghost use mathlib.Core.Bool.{true};
 ghost use mathlib.Core.List.{List};
 ghost use mathlib.Core.Path.{_≡_};
 ghost use Prim.Native.Nat.{ℕ, _^_, _≤_};
-ghost use lib.ListN.{length, getD};
+ghost use lib.ListN.{length};
 ghost use Rattle.word.specs.Field.{fieldsOf};
 ghost use Rattle.word.specs.Immediate.{immI, immS};
 ghost use Rattle.isa.specs.declared.Access.the-variants as access;
@@ -41,6 +41,7 @@ ghost use Rattle.place.specs.Place.{placeOf};
 ghost use Rattle.transfer.specs.Access.{atOf};
 ghost use Rattle.meaning.specs.Instruction.{nextOf, executeOf};
 ghost use Rattle.regime.specs.declared.Setting as setting;
+ghost use Rattle.words.specs.Words.{_of_, SSP};
 ghost use Rattle.quick.specs.Quick.{Does, Loads};
 
 // A load from address a.
@@ -191,7 +192,7 @@ pub fn store(
 // A push of v: to ssp - 8, which is then ssp.
 fn push(v: u64, pc: u64, rest: &mut [u64; COUNT], c: Control, mem: &mut [u8], map: &[u64]) -> Tried
     requires { ⌜ length (now mem) ≤ 2 ^ 20 ⌝ }
-    ensures { λ r. ⌜ ((x : List ℕ) → Does (r .done) (atOf access.Push (placeOf c kind.Push Double (pushOf (getD (now (rest .entry)) 3 0)) (now (map .entry)) (length (now (mem .entry)))) 0 0 v (getD (now (rest .entry)) 3 0) (nextOf pc) (now (mem .entry))) x (now (rest .entry)) (now (mem .entry)) (r .pc) x (now (rest .exit)) (now (mem .exit))) ⌝ }
+    ensures { λ r. ⌜ ((x : List ℕ) → Does (r .done) (atOf access.Push (placeOf c kind.Push Double (pushOf (SSP of now (rest .entry))) (now (map .entry)) (length (now (mem .entry)))) 0 0 v (SSP of now (rest .entry)) (nextOf pc) (now (mem .entry))) x (now (rest .entry)) (now (mem .entry)) (r .pc) x (now (rest .exit)) (now (mem .exit))) ⌝ }
 {
     let top = sum::difference(rest[SSP], 8);
     match steps::translate(
@@ -217,7 +218,7 @@ fn push(v: u64, pc: u64, rest: &mut [u64; COUNT], c: Control, mem: &mut [u8], ma
 // A pop-check of v: at ssp, which goes up by 8 where v is found.
 fn pop(v: u64, pc: u64, rest: &mut [u64; COUNT], c: Control, mem: &[u8], map: &[u64]) -> Tried
     requires { ⌜ length (now mem) ≤ 2 ^ 20 ⌝ }
-    ensures { λ r. ⌜ ((x : List ℕ) → Does (r .done) (atOf access.Pop (placeOf c kind.Pop Double (getD (now (rest .entry)) 3 0) (now (map .entry)) (length (now (mem .entry)))) 0 v 0 (getD (now (rest .entry)) 3 0) (nextOf pc) (now (mem .entry))) x (now (rest .entry)) (now (mem .entry)) (r .pc) x (now (rest .exit)) (now (mem .entry))) ⌝ }
+    ensures { λ r. ⌜ ((x : List ℕ) → Does (r .done) (atOf access.Pop (placeOf c kind.Pop Double (SSP of now (rest .entry)) (now (map .entry)) (length (now (mem .entry)))) 0 v 0 (SSP of now (rest .entry)) (nextOf pc) (now (mem .entry))) x (now (rest .entry)) (now (mem .entry)) (r .pc) x (now (rest .exit)) (now (mem .entry))) ⌝ }
 {
     let ssp = rest[SSP];
     match steps::translate(
@@ -254,7 +255,7 @@ pub fn shadow(
     map: &[u64],
 ) -> Tried
     requires { ⌜ length (now mem) ≤ 2 ^ 20 ⌝ }
-    ensures { λ r. ⌜ Does (r .done) (executeOf (systemOf w (fieldsOf w)) w (now (x .entry)) pc (getD (now (rest .entry)) 3 0) s (now (mem .entry)) (now (map .entry))) (now (x .entry)) (now (rest .entry)) (now (mem .entry)) (r .pc) (now (x .entry)) (now (rest .exit)) (now (mem .exit)) ⌝ }
+    ensures { λ r. ⌜ Does (r .done) (executeOf (systemOf w (fieldsOf w)) w (now (x .entry)) pc (SSP of now (rest .entry)) s (now (mem .entry)) (now (map .entry))) (now (x .entry)) (now (rest .entry)) (now (mem .entry)) (r .pc) (now (x .entry)) (now (rest .exit)) (now (mem .exit)) ⌝ }
 {
     let c = s.control;
     if s.shadow {

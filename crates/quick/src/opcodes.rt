@@ -9,7 +9,7 @@ use words::COUNT;
 ghost use mathlib.Core.List.{List};
 ghost use mathlib.Core.Path.{_≡_};
 ghost use Prim.Native.Nat.{ℕ, _+_, _-_, _^_, _≤_};
-ghost use lib.ListN.{length, getD};
+ghost use lib.ListN.{length};
 ghost use Rattle.address.specs.Control.{flatOf};
 ghost use Rattle.address.specs.declared.control.Control.{Control};
 ghost use Rattle.decoder.specs.Decode.{decodeOf};
@@ -17,6 +17,7 @@ ghost use Rattle.place.specs.Window.{Shows};
 ghost use Rattle.meaning.specs.Instruction.{executeOf};
 ghost use Rattle.meaning.specs.Plan.{fetchedOf};
 ghost use Rattle.meaning.specs.declared.Source.the-variants.{Fetch};
+ghost use Rattle.words.specs.Words.{_of_, SSP};
 ghost use Rattle.quick.specs.Quick.{Does, Sees};
 
 // The word at pc, if the window covers it.
@@ -59,7 +60,7 @@ pub fn word(
     map: &[u64],
 ) -> Tried
     requires { ⌜ (length (now mem) ≤ 2 ^ 20) × (flat ≡ flatOf (s .control)) ⌝ }
-    ensures { λ r. ⌜ Does (r .done) (executeOf (decodeOf w) w (now (x .entry)) pc (getD (now (rest .entry)) 3 0) s (now (mem .entry)) (now (map .entry))) (now (x .entry)) (now (rest .entry)) (now (mem .entry)) (r .pc) (now (x .exit)) (now (rest .exit)) (now (mem .exit)) ⌝ }
+    ensures { λ r. ⌜ Does (r .done) (executeOf (decodeOf w) w (now (x .entry)) pc (SSP of now (rest .entry)) s (now (mem .entry)) (now (map .entry))) (now (x .entry)) (now (rest .entry)) (now (mem .entry)) (r .pc) (now (x .exit)) (now (rest .exit)) (now (mem .exit)) ⌝ }
 {
     match w % 128 {
         0b0110111 => compute::lui(w, x, pc),
