@@ -1,9 +1,9 @@
 // The quick way's two ends: the fetch, and the instruction of a word by its major opcode.
-use super::Tried;
-use super::access;
 use super::compute;
-use regime::Setting;
+use moves::Tried;
+use moves::access;
 use place::window::Window;
+use regime::Setting;
 use word::sum;
 use words::COUNT;
 ghost use mathlib.Core.List.{List};
@@ -18,7 +18,8 @@ ghost use Rattle.meaning.specs.Instruction.{executeOf};
 ghost use Rattle.meaning.specs.Plan.{fetchedOf};
 ghost use Rattle.meaning.specs.declared.Source.the-variants.{Fetch};
 ghost use Rattle.words.specs.Words.{_of_, SSP};
-ghost use Rattle.quick.specs.Quick.{Does, Sees};
+ghost use Rattle.moves.specs.Moves.{Does};
+ghost use Rattle.quick.specs.Quick.{Sees};
 
 // The word at pc, if the window covers it.
 pub struct Seen {
@@ -75,6 +76,6 @@ pub fn word(
         0b0110011 => compute::op(w, x, pc),
         0b0111011 => compute::op_32(w, x, pc),
         0b1110011 => access::shadow(w, x, rest, pc, s, mem, map),
-        _ => compute::undone(pc),
+        _ => moves::undone(pc),
     }
 }
