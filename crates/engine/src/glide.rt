@@ -1,12 +1,11 @@
 // The quick way through a run: common instructions in place, one after the other, up to one that has to go the whole way. The loop is small
 // enough for the compiler to keep pc and the count in registers.
-use address::control;
+use meaning::Context;
 use meaning::Source;
 use place::window;
 use place::window::Window;
 use moves::Tried;
 use quick::opcodes;
-use regime::Setting;
 use word::sum;
 use words::COUNT;
 use words::ELP;
@@ -16,8 +15,8 @@ ghost use mathlib.Core.Bool.{false};
 ghost use mathlib.Core.Path.{_≡_};
 ghost use Prim.Native.Nat.{_^_, _≤_};
 ghost use lib.ListN.{length};
-ghost use Rattle.address.specs.Control.{flatOf};
 ghost use Rattle.place.specs.Window.{Shows};
+ghost use Rattle.meaning.specs.Context.{Knows};
 ghost use Rattle.meaning.specs.declared.Source.the-variants.{Fetch};
 ghost use Rattle.words.specs.Setting.{settingOf};
 ghost use Rattle.hart.specs.Hart.{hart};
@@ -36,15 +35,14 @@ fn instruction(
     x: &mut [u64; 32],
     w: &mut [u64; COUNT],
     pc: u64,
-    flat: bool,
-    s: Setting,
+    k: Context,
     mem: &mut [u8],
     map: &[u64],
 ) -> Tried
-    requires { ⌜ (length (now mem) ≤ 2 ^ 20) × Straight (now w) × (s ≡ settingOf (now w)) × (flat ≡ flatOf (s .control)) × Fetches word pc (now w) (now mem) (now map) ⌝ }
+    requires { ⌜ (length (now mem) ≤ 2 ^ 20) × Straight (now w) × Knows k (settingOf (now w)) × Fetches word pc (now w) (now mem) (now map) ⌝ }
     ensures { λ r. ⌜ Turned (r .done) pc (now (x .entry)) (now (w .entry)) (now (mem .entry)) (now (map .entry)) (r .pc) (now (x .exit)) (now (w .exit)) (now (mem .exit)) ⌝ }
 {
-    let t = opcodes::word(word, x, w, pc, flat, s, mem, map);
+    let t = opcodes::word(word, x, w, pc, k, mem, map);
     if t.done {
         return t;
     }
@@ -57,23 +55,22 @@ fn instruction(
     t
 }
 
-// The step at pc, where the window shows its word; `flat` says beforehand what the regime makes of loads and stores.
+// The step at pc, where the window shows its word.
 fn turn(
     x: &mut [u64; 32],
     w: &mut [u64; COUNT],
     pc: u64,
     v: Window,
-    flat: bool,
-    s: Setting,
+    k: Context,
     mem: &mut [u8],
     map: &[u64],
 ) -> Tried
-    requires { ⌜ (length (now mem) ≤ 2 ^ 20) × Straight (now w) × (s ≡ settingOf (now w)) × (flat ≡ flatOf (s .control)) × Shows v (s .control) (now map) (length (now mem)) ⌝ }
+    requires { ⌜ (length (now mem) ≤ 2 ^ 20) × Straight (now w) × Knows k (settingOf (now w)) × Shows v (k .setting .control) (now map) (length (now mem)) ⌝ }
     ensures { λ r. ⌜ Turned (r .done) pc (now (x .entry)) (now (w .entry)) (now (mem .entry)) (now (map .entry)) (r .pc) (now (x .exit)) (now (w .exit)) (now (mem .exit)) ⌝ }
 {
     let f = opcodes::fetch(v, pc, mem);
     if f.seen {
-        return instruction(f.word, x, w, pc, flat, s, mem, map);
+        return instruction(f.word, x, w, pc, k, mem, map);
     }
     Tried { done: false, pc }
 }
@@ -84,20 +81,19 @@ fn stretch(
     w: &mut [u64; COUNT],
     start: u64,
     v: Window,
-    flat: bool,
-    s: Setting,
+    k: Context,
     mem: &mut [u8],
     map: &[u64],
     budget: u64,
 ) -> Glided
-    requires { ⌜ (length (now mem) ≤ 2 ^ 20) × Straight (now w) × (s ≡ settingOf (now w)) × (flat ≡ flatOf (s .control)) × Shows v (s .control) (now map) (length (now mem)) ⌝ }
+    requires { ⌜ (length (now mem) ≤ 2 ^ 20) × Straight (now w) × Knows k (settingOf (now w)) × Shows v (k .setting .control) (now map) (length (now mem)) ⌝ }
     ensures steps { λ r. ⌜ Glides budget start (now (x .entry)) (now (w .entry)) (now (mem .entry)) (now (map .entry)) r (now (x .exit)) (now (w .exit)) (now (mem .exit)) ⌝ }
-    ensures words { λ _. ⌜ Straight (now (w .exit)) × (s ≡ settingOf (now (w .exit))) ⌝ }
+    ensures words { λ _. ⌜ Straight (now (w .exit)) × (settingOf (now (w .exit)) ≡ settingOf (now (w .entry))) ⌝ }
 {
     let mut pc = start;
     let mut left = budget;
     while 0 < left {
-        let t = turn(x, w, pc, v, flat, s, mem, map);
+        let t = turn(x, w, pc, v, k, mem, map);
         if t.done {
             pc = t.pc;
             left = left - 1;
@@ -113,21 +109,20 @@ fn steps(
     x: &mut [u64; 32],
     w: &mut [u64; COUNT],
     start: u64,
-    s: Setting,
+    k: Context,
     mem: &mut [u8],
     map: &[u64],
     budget: u64,
 ) -> Glided
-    requires { ⌜ (length (now mem) ≤ 2 ^ 20) × Straight (now w) × (s ≡ settingOf (now w)) ⌝ }
+    requires { ⌜ (length (now mem) ≤ 2 ^ 20) × Straight (now w) × Knows k (settingOf (now w)) ⌝ }
     ensures steps { λ r. ⌜ Glides budget start (now (x .entry)) (now (w .entry)) (now (mem .entry)) (now (map .entry)) r (now (x .exit)) (now (w .exit)) (now (mem .exit)) ⌝ }
-    ensures words { λ _. ⌜ Straight (now (w .exit)) × (s ≡ settingOf (now (w .exit))) ⌝ }
+    ensures words { λ _. ⌜ Straight (now (w .exit)) × (settingOf (now (w .exit)) ≡ settingOf (now (w .entry))) ⌝ }
 {
-    let flat = control::flat(s.control);
     let mut pc = start;
     let mut left = budget;
     while 0 < left {
-        let v = window::around(s.control, pc, map, mem.len() as u64);
-        let g = stretch(x, w, pc, v, flat, s, mem, map, left);
+        let v = window::around(k.setting.control, pc, map, mem);
+        let g = stretch(x, w, pc, v, k, mem, map, left);
         if g.left < left {
             pc = g.pc;
             left = g.left;
@@ -156,21 +151,21 @@ pub fn glide(
     x: &mut [u64; 32],
     w: &mut [u64; COUNT],
     source: Source,
-    s: Setting,
+    k: Context,
     mem: &mut [u8],
     map: &[u64],
     budget: u64,
 ) -> u64
-    requires { ⌜ (length (now mem) ≤ 2 ^ 20) × (s ≡ settingOf (now w)) ⌝ }
+    requires { ⌜ (length (now mem) ≤ 2 ^ 20) × Knows k (settingOf (now w)) ⌝ }
     ensures steps { λ r. ⌜ Midway (runFrom source budget (hart (now (x .entry)) (now (w .entry))) (now (mem .entry)) (now (map .entry))) budget r source (hart (now (x .exit)) (now (w .exit))) (now (mem .exit)) (now (map .entry)) ⌝ }
-    ensures setting { λ _. ⌜ s ≡ settingOf (now (w .exit)) ⌝ }
+    ensures setting { λ _. ⌜ settingOf (now (w .exit)) ≡ settingOf (now (w .entry)) ⌝ }
 {
     sized(*w);
     if waits(source, w[ELP]) {
         return budget;
     }
     let pc = w[PC];
-    let g = steps(x, w, pc, s, mem, map, budget);
+    let g = steps(x, w, pc, k, mem, map, budget);
     w[PC] = g.pc;
     g.left
 }

@@ -1,14 +1,18 @@
 // A run: steps up to and including the first that traps, or until the budget is spent. A turn of the loop lets the quick way take as many steps as it
 // does, and then takes one the whole way, by its effect.
 use super::glide;
+use address::control;
 use hart::Hart;
 use hart::step;
+use meaning::Context;
 use meaning::Source;
 use words::COUNT;
 use words::setting;
 ghost use mathlib.Core.Path.{_≡_};
 ghost use Prim.Native.Nat.{_^_, _≤_};
 ghost use lib.ListN.{length};
+ghost use Rattle.meaning.specs.Context.{Knows};
+ghost use Rattle.words.specs.Setting.{settingOf};
 ghost use Rattle.hart.specs.Hart.{hart};
 ghost use Rattle.hart.specs.Run.{runFrom};
 ghost use Rattle.engine.specs.Told.{toldOf, ranOf};
@@ -30,6 +34,17 @@ fn report(count: u64, trapped: bool, cause: u64) -> Told
     }
 }
 
+// What is known beforehand about the steps of a hart with these words, until its mode or a CSR that counts for it changes.
+fn known(w: &[u64; COUNT]) -> Context
+    ensures { λ r. ⌜ Knows r (settingOf (now (w .entry))) ⌝ }
+{
+    let s = setting::setting(w);
+    Context {
+        setting: s,
+        flat: control::flat(s.control),
+    }
+}
+
 // The first step takes its word from `source`, the others fetch.
 pub fn run(
     x: &mut [u64; 32],
@@ -46,20 +61,20 @@ pub fn run(
 {
     let mut from = source;
     let mut left = budget;
-    let mut s = setting::setting(w);
+    let mut k = known(w);
     while 0 < left {
-        left = glide::glide(x, w, from, s, mem, map, left);
+        left = glide::glide(x, w, from, k, mem, map, left);
         if left == 0 {
             return report(budget, false, 0);
         }
-        let t = step::one(x, w, from, s, mem, map);
+        let t = step::one(x, w, from, k.setting, mem, map);
         from = Source::Fetch;
         left = left - 1;
         if t.trapped {
             return report(budget - left, true, t.cause);
         }
         if t.switched {
-            s = setting::setting(w);
+            k = known(w);
             continue;
         }
     }

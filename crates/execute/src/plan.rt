@@ -23,7 +23,7 @@ fn fetch(source: Source, c: Control, pc: u64, mem: &[u8], map: &[u64]) -> Fetche
     match source {
         Source::Given(w) => Fetched::Word(w),
         Source::Fetch => {
-            let p = steps::fetch(c, Virtual(pc), map, mem.len() as u64);
+            let p = steps::fetch(c, Virtual(pc), map, mem);
             match p {
                 Place::At(q) => Fetched::Word(memory::word(mem, q.index())),
                 Place::Fault(cause, tval) => Fetched::Fault(cause, tval),

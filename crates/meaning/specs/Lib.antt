@@ -1,2 +1,3 @@
 pub mod Instruction
 pub mod Plan
+pub mod Context

@@ -1,6 +1,16 @@
 // What a step's instruction does, as definitions and their laws: no function stands here. Two ways to it stand above, the whole one
 // (`execute`) and the quick one (`quick`, `handler`), and neither has to wait for the other to be proved.
 
+use regime::Setting;
+
+// What is known beforehand about a stretch of steps: what the mode and CSRs say, and whether loads and stores are neither masked nor translated. The run's
+// way passes it on by value, so that what else is remembered is a field more; no definition of a step speaks of it. The window of fetches stands apart:
+// as a field it cost 12 machine instructions a step (docs/SPEED.md).
+pub struct Context {
+    pub setting: Setting,
+    pub flat: bool,
+}
+
 // Where a step takes its word from: it fetches at pc, or a word is given as if it had been fetched there.
 pub enum Source {
     Fetch,

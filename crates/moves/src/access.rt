@@ -12,12 +12,12 @@ use isa::Access;
 use isa::Instruction;
 use isa::Kind;
 use isa::Width;
+use meaning::Context;
 use place::Place;
 use place::steps;
-use regime::Setting;
 use value::Value;
-use word::field;
 use word::field::Fields;
+use word::field;
 use word::immediate;
 use word::sum;
 use words::COUNT;
@@ -52,15 +52,14 @@ fn load_at(
     a: u64,
     x: &mut [u64; 32],
     pc: u64,
-    flat: bool,
     c: Control,
     mem: &[u8],
     map: &[u64],
 ) -> Tried
-    requires { ⌜ (length (now mem) ≤ 2 ^ 20) × (flat ≡ flatOf c) ⌝ }
+    requires { ⌜ length (now mem) ≤ 2 ^ 20 ⌝ }
     ensures { λ r. ⌜ ((rest : List ℕ) → Does (r .done) (atOf (access.Load n sign) (placeOf c kind.Load n a (now (map .entry)) (length (now (mem .entry)))) rd 0 0 0 (nextOf pc) (now (mem .entry))) (now (x .entry)) rest (now (mem .entry)) (r .pc) (now (x .exit)) rest (now (mem .entry))) ⌝ }
 {
-    match steps::quick_data(flat, c, Kind::Load, n, Virtual(a), map, mem.len() as u64) {
+    match steps::translate(c, Kind::Load, n, Virtual(a), map, mem) {
         Place::At(q) => {
             let v = memory::extend(n, sign, memory::load(mem, q.index(), n));
             wrote(x, rd, v, sum::sum(pc, 4))
@@ -74,7 +73,7 @@ fn flat_load(n: Width, sign: bool, a: u64, mem: &[u8]) -> Value
     requires { ⌜ length (now mem) ≤ 2 ^ 20 ⌝ }
     ensures { λ r. ⌜ ((f : Fields) (off : ℕ) → Loads (r .known) (Memory (access.Load n sign) (f .rd) (f .rs1) 0 off) f off a (now (mem .entry)) (r .value)) ⌝ }
 {
-    match steps::plainly(Kind::Load, n, Virtual(a), mem.len() as u64) {
+    match steps::plainly(Kind::Load, n, Virtual(a), mem) {
         Place::At(q) => value::told(memory::extend(n, sign, memory::load(mem, q.index(), n))),
         Place::Fault(_, _) => value::none(),
     }
@@ -115,22 +114,22 @@ pub fn load(
     w: u32,
     x: &mut [u64; 32],
     pc: u64,
-    flat: bool,
-    s: Setting,
+    k: Context,
     mem: &[u8],
     map: &[u64],
 ) -> Tried
-    requires { ⌜ (length (now mem) ≤ 2 ^ 20) × (flat ≡ flatOf (s .control)) ⌝ }
-    ensures { λ r. ⌜ ((ssp : ℕ) (rest : List ℕ) → Does (r .done) (executeOf (loadOf (fieldsOf w) (immI w)) w (now (x .entry)) pc ssp s (now (mem .entry)) (now (map .entry))) (now (x .entry)) rest (now (mem .entry)) (r .pc) (now (x .exit)) rest (now (mem .entry))) ⌝ }
+    requires { ⌜ (length (now mem) ≤ 2 ^ 20) × (k .flat ≡ flatOf (k .setting .control)) ⌝ }
+    ensures { λ r. ⌜ ((ssp : ℕ) (rest : List ℕ) → Does (r .done) (executeOf (loadOf (fieldsOf w) (immI w)) w (now (x .entry)) pc ssp (k .setting) (now (mem .entry)) (now (map .entry))) (now (x .entry)) rest (now (mem .entry)) (r .pc) (now (x .exit)) rest (now (mem .entry))) ⌝ }
 {
-    if flat {
+    if k.flat {
         return load_flat(w, x, pc, mem);
     }
+    let c = k.setting.control;
     match base::load(field::split(w), immediate::imm_i(w)) {
-        Instruction::Memory(k, rd, rs1, _, off) => match k {
+        Instruction::Memory(access, rd, rs1, _, off) => match access {
             Access::Load(n, sign) => {
                 let a = sum::sum(reg(x, rs1), off);
-                load_at(n, sign, rd, a, x, pc, flat, s.control, mem, map)
+                load_at(n, sign, rd, a, x, pc, c, mem, map)
             }
             _ => undone(pc),
         },
@@ -152,7 +151,7 @@ fn store_at(
     requires { ⌜ (length (now mem) ≤ 2 ^ 20) × (flat ≡ flatOf c) ⌝ }
     ensures { λ r. ⌜ ((x rest : List ℕ) → Does (r .done) (atOf (access.Store n) (placeOf c kind.Store n a (now (map .entry)) (length (now (mem .entry)))) 0 0 v 0 (nextOf pc) (now (mem .entry))) x rest (now (mem .entry)) (r .pc) x rest (now (mem .exit))) ⌝ }
 {
-    match steps::quick_data(flat, c, Kind::Store, n, Virtual(a), map, mem.len() as u64) {
+    match steps::quick_data(flat, c, Kind::Store, n, Virtual(a), map, mem) {
         Place::At(q) => {
             memory::store(mem, q.index(), n, v);
             Tried {
@@ -168,17 +167,17 @@ pub fn store(
     w: u32,
     x: &[u64; 32],
     pc: u64,
-    flat: bool,
-    s: Setting,
+    k: Context,
     mem: &mut [u8],
     map: &[u64],
 ) -> Tried
-    requires { ⌜ (length (now mem) ≤ 2 ^ 20) × (flat ≡ flatOf (s .control)) ⌝ }
-    ensures { λ r. ⌜ ((ssp : ℕ) (rest : List ℕ) → Does (r .done) (executeOf (storeOf (fieldsOf w) (immS w)) w (now (x .entry)) pc ssp s (now (mem .entry)) (now (map .entry))) (now (x .entry)) rest (now (mem .entry)) (r .pc) (now (x .entry)) rest (now (mem .exit))) ⌝ }
+    requires { ⌜ (length (now mem) ≤ 2 ^ 20) × (k .flat ≡ flatOf (k .setting .control)) ⌝ }
+    ensures { λ r. ⌜ ((ssp : ℕ) (rest : List ℕ) → Does (r .done) (executeOf (storeOf (fieldsOf w) (immS w)) w (now (x .entry)) pc ssp (k .setting) (now (mem .entry)) (now (map .entry))) (now (x .entry)) rest (now (mem .entry)) (r .pc) (now (x .entry)) rest (now (mem .exit))) ⌝ }
 {
-    let c = s.control;
+    let flat = k.flat;
+    let c = k.setting.control;
     match base::store(field::split(w), immediate::imm_s(w)) {
-        Instruction::Memory(k, _, rs1, rs2, off) => match k {
+        Instruction::Memory(access, _, rs1, rs2, off) => match access {
             Access::Store(n) => {
                 let a = sum::sum(reg(x, rs1), off);
                 store_at(n, a, reg(x, rs2), pc, flat, c, mem, map)
@@ -201,7 +200,7 @@ fn push(v: u64, pc: u64, rest: &mut [u64; COUNT], c: Control, mem: &mut [u8], ma
         Width::Double,
         Virtual(top),
         map,
-        mem.len() as u64,
+        mem,
     ) {
         Place::At(q) => {
             memory::store(mem, q.index(), Width::Double, v);
@@ -227,7 +226,7 @@ fn pop(v: u64, pc: u64, rest: &mut [u64; COUNT], c: Control, mem: &[u8], map: &[
         Width::Double,
         Virtual(ssp),
         map,
-        mem.len() as u64,
+        mem,
     ) {
         Place::At(q) => {
             if memory::load(mem, q.index(), Width::Double) == v {
@@ -250,15 +249,15 @@ pub fn shadow(
     x: &[u64; 32],
     rest: &mut [u64; COUNT],
     pc: u64,
-    s: Setting,
+    k: Context,
     mem: &mut [u8],
     map: &[u64],
 ) -> Tried
     requires { ⌜ length (now mem) ≤ 2 ^ 20 ⌝ }
-    ensures { λ r. ⌜ Does (r .done) (executeOf (systemOf w (fieldsOf w)) w (now (x .entry)) pc (SSP of now (rest .entry)) s (now (mem .entry)) (now (map .entry))) (now (x .entry)) (now (rest .entry)) (now (mem .entry)) (r .pc) (now (x .entry)) (now (rest .exit)) (now (mem .exit)) ⌝ }
+    ensures { λ r. ⌜ Does (r .done) (executeOf (systemOf w (fieldsOf w)) w (now (x .entry)) pc (SSP of now (rest .entry)) (k .setting) (now (mem .entry)) (now (map .entry))) (now (x .entry)) (now (rest .entry)) (now (mem .entry)) (r .pc) (now (x .entry)) (now (rest .exit)) (now (mem .exit)) ⌝ }
 {
-    let c = s.control;
-    if s.shadow {
+    let c = k.setting.control;
+    if k.setting.shadow {
         return match w {
             0xce104073 => push(reg(x, 1), pc, rest, c, mem, map),
             0xce504073 => push(reg(x, 5), pc, rest, c, mem, map),

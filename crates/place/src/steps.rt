@@ -19,6 +19,7 @@ use page::map::Found;
 ghost use mathlib.Core.Bool.{false};
 ghost use mathlib.Core.Path.{_≡_};
 ghost use Prim.Native.Nat.{_^_, _≤_};
+ghost use lib.ListN.{length};
 ghost use Rattle.isa.specs.declared.Width.the-variants.{Word};
 ghost use Rattle.isa.specs.declared.Kind.the-variants.{Fetch};
 ghost use Rattle.page.specs.declared.map.Found.the-variants.{Absent};
@@ -138,44 +139,44 @@ fn plain(k: Kind, w: Width, t: Virtual, len: u64) -> Place
 
 // The nine steps for a fetch, which is not masked and always has the current mode. Every step of a run makes one: on its own, it
 // is compiled into the run's loop, and so is what is left of `translate`.
-pub fn fetch(c: Control, a: Virtual, map: &[u64], len: u64) -> Place
-    requires { ⌜ len ≤ 2 ^ 20 ⌝ }
-    ensures { λ r. ⌜ r ≡ placeOf c Fetch Word (a .0) (now (map .entry)) len ⌝ }
+pub fn fetch(c: Control, a: Virtual, map: &[u64], mem: &[u8]) -> Place
+    requires { ⌜ length (now mem) ≤ 2 ^ 20 ⌝ }
+    ensures { λ r. ⌜ r ≡ placeOf c Fetch Word (a .0) (now (map .entry)) (length (now (mem .entry))) ⌝ }
 {
     let m = c.mode;
     if align::aligned(Width::Word, a) {
         if control::paged(c, m) {
-            return paged_fetch(control::regime(c, m), a, map, len);
+            return paged_fetch(control::regime(c, m), a, map, mem.len() as u64);
         }
-        return plain(Kind::Fetch, Width::Word, a, len);
+        return plain(Kind::Fetch, Width::Word, a, mem.len() as u64);
     }
     Place::Fault(cause::misaligned(Kind::Fetch), a.0)
 }
 
 // The only ways from a Virtual to a Physical, in Bare and in M too, are this and `fetch`, and the quick ones below, which give the
 // same places.
-pub fn translate(c: Control, k: Kind, w: Width, a: Virtual, map: &[u64], len: u64) -> Place
-    requires { ⌜ len ≤ 2 ^ 20 ⌝ }
-    ensures { λ r. ⌜ r ≡ placeOf c k w (a .0) (now (map .entry)) len ⌝ }
+pub fn translate(c: Control, k: Kind, w: Width, a: Virtual, map: &[u64], mem: &[u8]) -> Place
+    requires { ⌜ length (now mem) ≤ 2 ^ 20 ⌝ }
+    ensures { λ r. ⌜ r ≡ placeOf c k w (a .0) (now (map .entry)) (length (now (mem .entry))) ⌝ }
 {
     let m = control::effective(c, k);
     let t = mask::transform(c, m, k, a);
     if align::aligned(w, t) {
         if control::paged(c, m) {
-            return paged(control::regime(c, m), k, w, t, map, len);
+            return paged(control::regime(c, m), k, w, t, map, mem.len() as u64);
         }
-        return plain(k, w, t, len);
+        return plain(k, w, t, mem.len() as u64);
     }
     Place::Fault(cause::misaligned(k), t.0)
 }
 
 // Steps 3 and 9 of an access that is neither masked nor translated.
-pub fn plainly(k: Kind, w: Width, a: Virtual, len: u64) -> Place
-    requires { ⌜ len ≤ 2 ^ 20 ⌝ }
-    ensures { λ r. ⌜ r ≡ flatPlaceOf k w (a .0) len ⌝ }
+pub fn plainly(k: Kind, w: Width, a: Virtual, mem: &[u8]) -> Place
+    requires { ⌜ length (now mem) ≤ 2 ^ 20 ⌝ }
+    ensures { λ r. ⌜ r ≡ flatPlaceOf k w (a .0) (length (now (mem .entry))) ⌝ }
 {
     if align::aligned(w, a) {
-        return inside(k, w, len, Physical(a.0), a);
+        return inside(k, w, mem.len() as u64, Physical(a.0), a);
     }
     Place::Fault(cause::misaligned(k), a.0)
 }
@@ -188,13 +189,13 @@ pub fn quick_data(
     w: Width,
     a: Virtual,
     map: &[u64],
-    len: u64,
+    mem: &[u8],
 ) -> Place
-    requires { ⌜ (len ≤ 2 ^ 20) × (flat ≡ flatOf c) × (isShadow k ≡ false) × (isFetch k ≡ false) ⌝ }
-    ensures { λ r. ⌜ r ≡ placeOf c k w (a .0) (now (map .entry)) len ⌝ }
+    requires { ⌜ (length (now mem) ≤ 2 ^ 20) × (flat ≡ flatOf c) × (isShadow k ≡ false) × (isFetch k ≡ false) ⌝ }
+    ensures { λ r. ⌜ r ≡ placeOf c k w (a .0) (now (map .entry)) (length (now (mem .entry))) ⌝ }
 {
     if flat {
-        return plainly(k, w, a, len);
+        return plainly(k, w, a, mem);
     }
-    translate(c, k, w, a, map, len)
+    translate(c, k, w, a, map, mem)
 }

@@ -9,6 +9,7 @@ use address::control::Control;
 use word::sum;
 ghost use mathlib.Core.Bool.{true, false};
 ghost use mathlib.Core.List.{List};
+ghost use lib.ListN.{length};
 ghost use mathlib.Core.Path.{_≡_};
 ghost use Prim.Native.Nat.{ℕ, _^_, _≤_};
 ghost use Rattle.address.specs.declared.control.Control as declared;
@@ -55,15 +56,15 @@ fn whole(c: Control, len: u64) -> Window
 }
 
 // The page of address a, if a fetch from its first address has a place, and its frame lies in memory whole.
-fn page(c: Control, a: u64, map: &[u64], len: u64) -> Window
-    requires { ⌜ (len ≤ 2 ^ 20) × (bareOf c ≡ false) ⌝ }
-    ensures { λ r. ⌜ Shows r c (now (map .entry)) len ⌝ }
+fn page(c: Control, a: u64, map: &[u64], mem: &[u8]) -> Window
+    requires { ⌜ (length (now mem) ≤ 2 ^ 20) × (bareOf c ≡ false) ⌝ }
+    ensures { λ r. ⌜ Shows r c (now (map .entry)) (length (now (mem .entry))) ⌝ }
 {
     let low = a - a % 4096;
-    match steps::fetch(c, Virtual(low), map, len) {
+    match steps::fetch(c, Virtual(low), map, mem) {
         Place::At(q) => {
             let at = q.0 - BASE;
-            if at + 4096 <= len {
+            if at + 4096 <= mem.len() as u64 {
                 return Window {
                     low,
                     span: 4093,
@@ -77,12 +78,12 @@ fn page(c: Control, a: u64, map: &[u64], len: u64) -> Window
 }
 
 // The window that address a is in, or one that does not cover it.
-pub fn around(c: Control, a: u64, map: &[u64], len: u64) -> Window
-    requires { ⌜ len ≤ 2 ^ 20 ⌝ }
-    ensures { λ r. ⌜ Shows r c (now (map .entry)) len ⌝ }
+pub fn around(c: Control, a: u64, map: &[u64], mem: &[u8]) -> Window
+    requires { ⌜ length (now mem) ≤ 2 ^ 20 ⌝ }
+    ensures { λ r. ⌜ Shows r c (now (map .entry)) (length (now (mem .entry))) ⌝ }
 {
     if control::bare(c) {
-        return whole(c, len);
+        return whole(c, mem.len() as u64);
     }
-    page(c, a, map, len)
+    page(c, a, map, mem)
 }

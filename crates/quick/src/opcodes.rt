@@ -1,9 +1,9 @@
 // The quick way's two ends: the fetch, and the instruction of a word by its major opcode.
 use super::compute;
+use meaning::Context;
 use moves::Tried;
 use moves::access;
 use place::window::Window;
-use regime::Setting;
 use word::sum;
 use words::COUNT;
 ghost use mathlib.Core.List.{List};
@@ -48,34 +48,32 @@ pub fn fetch(v: Window, pc: u64, mem: &[u8]) -> Seen
     }
 }
 
-// The instruction that a word names; `flat` says beforehand that loads and stores are neither masked nor translated. FENCE, the swap, and
-// what no row has are left to the whole way.
+// The instruction that a word names. FENCE, the swap, and what no row has are left to the whole way.
 pub fn word(
     w: u32,
     x: &mut [u64; 32],
     rest: &mut [u64; COUNT],
     pc: u64,
-    flat: bool,
-    s: Setting,
+    k: Context,
     mem: &mut [u8],
     map: &[u64],
 ) -> Tried
-    requires { ⌜ (length (now mem) ≤ 2 ^ 20) × (flat ≡ flatOf (s .control)) ⌝ }
-    ensures { λ r. ⌜ Does (r .done) (executeOf (decodeOf w) w (now (x .entry)) pc (SSP of now (rest .entry)) s (now (mem .entry)) (now (map .entry))) (now (x .entry)) (now (rest .entry)) (now (mem .entry)) (r .pc) (now (x .exit)) (now (rest .exit)) (now (mem .exit)) ⌝ }
+    requires { ⌜ (length (now mem) ≤ 2 ^ 20) × (k .flat ≡ flatOf (k .setting .control)) ⌝ }
+    ensures { λ r. ⌜ Does (r .done) (executeOf (decodeOf w) w (now (x .entry)) pc (SSP of now (rest .entry)) (k .setting) (now (mem .entry)) (now (map .entry))) (now (x .entry)) (now (rest .entry)) (now (mem .entry)) (r .pc) (now (x .exit)) (now (rest .exit)) (now (mem .exit)) ⌝ }
 {
     match w % 128 {
         0b0110111 => compute::lui(w, x, pc),
         0b0010111 => compute::auipc(w, x, pc),
         0b1101111 => compute::jal(w, x, pc),
-        0b1100111 => compute::jalr(w, x, pc, s.pad),
+        0b1100111 => compute::jalr(w, x, pc, k.setting.pad),
         0b1100011 => compute::branch(w, x, pc),
-        0b0000011 => access::load(w, x, pc, flat, s, mem, map),
-        0b0100011 => access::store(w, x, pc, flat, s, mem, map),
+        0b0000011 => access::load(w, x, pc, k, mem, map),
+        0b0100011 => access::store(w, x, pc, k, mem, map),
         0b0010011 => compute::op_imm(w, x, pc),
         0b0011011 => compute::op_imm_32(w, x, pc),
         0b0110011 => compute::op(w, x, pc),
         0b0111011 => compute::op_32(w, x, pc),
-        0b1110011 => access::shadow(w, x, rest, pc, s, mem, map),
+        0b1110011 => access::shadow(w, x, rest, pc, k, mem, map),
         _ => moves::undone(pc),
     }
 }

@@ -139,7 +139,7 @@ pub fn access(
                 size::width(k),
                 to,
                 map,
-                mem.len() as u64,
+                mem,
             );
             at(k, p, rd, a, b, ssp, next, mem)
         }

@@ -1,5 +1,5 @@
 -- `glide::glide` meets its contract: no step, or those of the loop. Assumes nothing.
-use mathlib.Core.Path.{_≡_, sym, refl, _∙_}
+use mathlib.Core.Path.{_≡_, refl, _∙_}
 use lib.Seq.{set-getD}
 use Rattle.words.specs.Words.{PC}
 use Rattle.words.proofs.Stored.{setting-kept}
@@ -9,7 +9,7 @@ use Rattle.engine.proofs.glide.glide.Statement.{statement}
 use Rattle.engine.proofs.glide.glide.Tie as tie
 
 returns : tie.Need-returns
-returns c = (start _ _ _ _ _, c .before .before .before .before .before .before .before .pre .1)
+returns c = (start _ _ _ _ _, refl)
 
 steps-requires : tie.Need-steps-requires
 steps-requires c κs =
@@ -25,7 +25,7 @@ returns-2 c =
     let w = i .before .before .before .before .before .before .before .args .w .now in
     (
       rw (i .before .waits .ensures (i .if1 .left) .0) (rw (set-getD w PC 0) at (s .ensures .0)),
-      s .ensures .1 .1 ∙ sym (setting-kept PC (s .result .pc) (s .last .1 .0) refl),
+      setting-kept PC (s .result .pc) (s .last .1 .0) refl ∙ s .ensures .1 .1,
     )
 
 pub glide-spec : {M : Type 1} → statement M

@@ -16,12 +16,15 @@ mode-said : (w : List ℕ) → settingOf w .control .mode ≡ modeOf (MODE of w)
 unfolding settingOf controlOf
 mode-said w = refl
 
+word-requires : tie.Need-word-requires
+word-requires c κs = let st = c .before .before .before .before .before in (st .pre .0, rw (st .pre .2 .0) (st .pre .2 .1))
+
 returns : tie.Need-returns
 returns c =
     let t = c .before .before .before in
     let st = t .before .before .before .before .before .before in
     let a = st .args in
-    quickly (a .pc) (a .x .now) (a .w .now) (a .mem .now) (st .pre .1) (a .map .now) (a .word) (st .pre .4) (t .word .result .done) (t .word .result .pc) (t .word .last .1 .0) (t .word .last .1 .1 .0) (t .word .last .1 .1 .1 .1 .1 .1 .0) (rw (st .pre .2) at (t .word .ensures))
+    quickly (a .pc) (a .x .now) (a .w .now) (a .mem .now) (st .pre .1) (a .map .now) (a .word) (st .pre .3) (t .word .result .done) (t .word .result .pc) (t .word .last .1 .0) (t .word .last .1 .1 .0) (t .word .last .1 .1 .1 .1 .1 .0) (rw (st .pre .2 .0) at (t .word .ensures))
 
 returns-2 : tie.Need-returns-2
 returns-2 c =
@@ -31,7 +34,7 @@ returns-2 c =
     let d = rw (c .before .before .before .before .before .if1 .left) at (t .word .ensures) in
     let h = c .before .before .handle .ensures (a .pc) (SSP of a .w .now) (settingOf (a .w .now)) (a .mem .now) (a .map .now) in
     rw (c .sum .ensures, d .2)
-    (by-handler (a .pc) (a .x .now) (a .w .now) (a .mem .now) (st .pre .1) (a .map .now) (a .word) (st .pre .4) _ _
+    (by-handler (a .pc) (a .x .now) (a .w .now) (a .mem .now) (st .pre .1) (a .map .now) (a .word) (st .pre .3) _ _
     ((rw (c .before .if2 .taken, d .0, d .1) at h) (mode-said (a .w .now))))
 
 returns-3 : tie.Need-returns-3
@@ -49,7 +52,7 @@ pub instruction-spec : {M : Type 1} → statement M
 instruction-spec =
     tie.close
     (tie.spec
-    (λ c κs. search needs)
+    word-requires
     (λ c. search needs)
     returns
     (λ c κs. search needs)

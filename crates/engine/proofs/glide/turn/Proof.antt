@@ -5,15 +5,15 @@ use Rattle.engine.proofs.glide.turn.Statement.{statement}
 use Rattle.engine.proofs.glide.turn.Tie as tie
 
 fetch-requires : tie.Need-fetch-requires
-fetch-requires c κs = let s = c .before .before .before in (s .pre .0, s .pre .4 .fits)
+fetch-requires c κs = let s = c .before .before .before in (s .pre .0, s .pre .3 .fits)
 
 instruction-requires : tie.Need-instruction-requires
 instruction-requires c κs =
     let t = c .before .before .before in
     let f = t .before in
     let s = f .before .before .before .before in
-    let w = f .fetch .ensures (s .args .s .control) (s .args .map .now) (s .pre .4) (t .if1 .taken) in
-    (s .pre .0, s .pre .1, s .pre .2, s .pre .3, rw (s .pre .2) at w)
+    let w = f .fetch .ensures (s .args .k .setting .control) (s .args .map .now) (s .pre .3) (t .if1 .taken) in
+    (s .pre .0, s .pre .1, s .pre .2, rw (s .pre .2 .0) at w)
 
 pub turn-spec : {M : Type 1} → statement M
 turn-spec =

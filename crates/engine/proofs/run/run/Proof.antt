@@ -6,6 +6,7 @@ use lib.ListN.{length}
 use native.Mathlib.Omega.{arith}
 use borrow.Author.Needs.{needs}
 use Rattle.words.specs.Setting.{settingOf}
+use Rattle.meaning.specs.Context.{Knows}
 use Rattle.hart.specs.Hart.{hart}
 use Rattle.hart.specs.Run.{Run, runFrom, Midway}
 use Rattle.hart.specs.declared.Hart.{Hart}
@@ -16,14 +17,14 @@ use Rattle.engine.proofs.run.run.Tie as tie
 
 -- memory keeps its length, the setting is that of the words, and what is left, run, gives the whole
 abbrev Inv-loop : tie.InvT-loop
-Inv-loop x₀ w₀ mem₀ map budget from₀ left₀ s₀ x w mem from left s =
-    (length mem ≡ length mem₀) × (s ≡ settingOf w) × Midway (runFrom from₀ budget (hart x₀ w₀) mem₀ map) budget left from (hart x w) mem map
+Inv-loop x₀ w₀ mem₀ map budget from₀ left₀ k₀ x w mem from left k =
+    (length mem ≡ length mem₀) × Knows k (settingOf w) × Midway (runFrom from₀ budget (hart x₀ w₀) mem₀ map) budget left from (hart x w) mem map
 
 abbrev μ-loop : tie.MeasureT-loop
-μ-loop x₀ w₀ mem₀ map budget from₀ left₀ s₀ x w mem from left s = left
+μ-loop x₀ w₀ mem₀ map budget from₀ left₀ k₀ x w mem from left k = left
 
 loop-holds : tie.Need-loop-holds Inv-loop μ-loop
-loop-holds c = (refl, c .setting .ensures, start _ _ _ _ _)
+loop-holds c = (refl, c .known .ensures, start _ _ _ _ _)
 
 glide-requires : tie.Need-glide-requires Inv-loop μ-loop
 glide-requires c κs =
@@ -84,6 +85,9 @@ module _ (o : tie.After-one Inv-loop μ-loop) where
       let e = o .one .ensures in
       ends _ _ _ _ (glided before) (before .glide .last .1 .1 .1 .1 .0) _ (midway before) some _ _ _ _ _ (e .0) (e .1 .0) (e .1 .1 .0) (e .1 .1 .1 .0 .0) (e .1 .1 .1 .0 .1) q
 
+  kept : o .one .result .switched ≡ false → Knows (loop before .loop .k) (settingOf (o .one .last .1 .0))
+  kept q = rw (o .one .ensures .1 .1 .1 .1 q, before .glide .ensures .1) (loop before .loop .inv .1)
+
 returns : tie.Need-returns Inv-loop μ-loop
 returns c =
     let g = c .before .before .before .before in
@@ -92,7 +96,7 @@ returns c =
 one-requires : tie.Need-one-requires Inv-loop μ-loop
 one-requires c κs =
     let g = c .before .before .before .before .before .before in
-    (rw (len g) (first g .pre), g .glide .ensures .1)
+    (rw (len g) (first g .pre), loop g .loop .inv .1 .0 ∙ sym (g .glide .ensures .1))
 
 returns-2 : tie.Need-returns-2 Inv-loop μ-loop
 returns-2 c =
@@ -102,12 +106,12 @@ returns-2 c =
 loop-again : tie.Need-loop-again Inv-loop μ-loop
 loop-again c =
     let o = c .before .before .before .before .before .before in
-    (step-len o, c .setting2 .ensures, onward o (c .before .before .before .if2 .left))
+    (step-len o, c .known2 .ensures, onward o (c .before .before .before .if2 .left))
 
 loop-again-2 : tie.Need-loop-again-2 Inv-loop μ-loop
 loop-again-2 c =
     let o = c .before .before .before .before in
-    (step-len o, before o .glide .ensures .1 ∙ sym (o .one .ensures .1 .1 .1 .1 (c .if3 .left)), onward o (c .before .if2 .left))
+    (step-len o, kept o (c .if3 .left), onward o (c .before .if2 .left))
 
 returns-3 : tie.Need-returns-3 Inv-loop μ-loop
 returns-3 c =

@@ -13,7 +13,7 @@ returns : tie.Need-returns
 returns c =
     let t = c .before .before in
     let s = t .before .before .before in
-    λ ssp rest. c .load-flat .ensures ssp (s .args .s) rest (s .args .map .now) (sym (s .pre .1) ∙ t .if1 .taken)
+    λ ssp rest. c .load-flat .ensures ssp (s .args .k .setting) rest (s .args .map .now) (sym (s .pre .1) ∙ t .if1 .taken)
 
 returns-2 : tie.Need-returns-2
 unfolding executeOf accessOf passedOf
@@ -22,8 +22,8 @@ returns-2 c =
     let l = a .before .before .before .before in
     let k = l .before .before .before in
     let d = k .before .before in
-    let told = read loadOf (d .before .before .split .ensures) (d .before .imm-i .ensures) (d .load .ensures) (k .k .given .1) in
-    λ ssp rest. does-as (c .load-at .result) _ _ _ rest _ _ rest _ (rw (told, l .k2 .given .1, a .sum .ensures, a .before .reg .ensures) (load-parts _ _ _ _ _ _ _ _ _)) (c .load-at .ensures rest)
+    let told = read loadOf (d .before .before .split .ensures) (d .before .imm-i .ensures) (d .load .ensures) (k .access .given .1) in
+    λ ssp rest. does-as (c .load-at .result) _ _ _ rest _ _ rest _ (rw (told, l .access2 .given .1, a .sum .ensures, a .before .reg .ensures) (load-parts _ _ _ _ _ _ _ _ _)) (c .load-at .ensures rest)
 
 pub load-spec : {M : Type 1} → statement M
 load-spec =

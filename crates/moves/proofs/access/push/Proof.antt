@@ -13,7 +13,7 @@ returns c =
     let s = c .before .before .before in
     let at = s .before .before .before .before in
     let t = at .before .before in
-    let top = t .before .difference .ensures in
+    let top = t .before .before .difference .ensures in
     λ x. placed _ _ _ _ _ _ _ _ _ _ _ _ _ _ _ (sym (rw top at (t .translate .ensures)) ∙ at .q .given .1) (c .sum .ensures, refl, rw top, rw (s .before .index .ensures) at (s .store .ensures))
 
 pub push-spec : {M : Type 1} → statement M
@@ -32,4 +32,5 @@ push-spec =
     (λ c κs. search needs)
     (λ c. search needs)
     returns
+    (λ c. search needs)
     (λ c. λ x. undone-does _ _ (c .undone .ensures) _ x _ _))

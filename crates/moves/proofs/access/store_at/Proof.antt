@@ -27,4 +27,5 @@ store-at-spec =
     (λ c κs. search needs)
     (λ c. search needs)
     returns
+    (λ c. search needs)
     (λ c. λ x rest. undone-does _ _ (c .undone .ensures) _ x rest _))
