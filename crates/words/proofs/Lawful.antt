@@ -38,8 +38,8 @@ use Rattle.words.specs.Return.{backIn, mretOf, sretOf}
 abbrev tests : Table (ℕ → Bool)
 tests =
     PC ⇒ (λ m. eqb (m % 4) 0) ¦ MODE ⇒ isMode ¦ ELP ⇒ (λ m. ltb m 2) ¦ SSP ⇒ (λ m. eqb (m % 8) 0) ¦ STVEC ⇒ legalOf fours
-    ¦ SENVCFG ⇒ legalOf envcfg ¦ SEPC ⇒ legalOf fours ¦ SATP ⇒ legalOf satp ¦ MSTATUS ⇒ legalOf mstatus ¦ MEDELEG ⇒ legalOf medeleg ¦ MTVEC ⇒ legalOf fours
-    ¦ MENVCFG ⇒ legalOf envcfg ¦ MEPC ⇒ legalOf fours ¦ MSECCFG ⇒ legalOf mseccfg ¦ otherwise (λ m. true)
+    ¦ SENVCFG ⇒ legalOf envcfg ¦ SEPC ⇒ legalOf fours ¦ SATP ⇒ legalOf satp ¦ MSTATUS ⇒ legalOf mstatus ¦ MEDELEG ⇒ legalOf medeleg
+    ¦ MTVEC ⇒ legalOf fours ¦ MENVCFG ⇒ legalOf envcfg ¦ MEPC ⇒ legalOf fours ¦ MSECCFG ⇒ legalOf mseccfg ¦ otherwise (λ m. true)
 
 -- word k can be m
 abbrev pub fits : (k m : ℕ) → Bool
