@@ -35,7 +35,7 @@ use Rattle.words.specs.Access.{shownOf, csrWriteOf}
 use Rattle.words.specs.Legal.{wordsLegal}
 use Rattle.words.specs.Setting.{settingOf}
 use Rattle.words.proofs.Lawful.{Lawful, lawful, legal-of, put, flag-fits, pc-four, ssp-eight, write-lawful, trap-lawful, mret-lawful, sret-lawful}
-use Rattle.hart.specs.Hart.{legal}
+use Rattle.hart.specs.Hart.{hart, legal}
 use Rattle.hart.specs.Run.{Run, followed, runFrom}
 use Rattle.hart.specs.Step.{Outcome, csrOf, wholeOf, applyOf, planOf, stepFrom}
 use Rattle.hart.specs.declared.Hart.{Hart}
@@ -54,6 +54,12 @@ lawful-hart h e =
 pub legal-hart : (h : Hart) → LawfulHart h → legal h ≡ true
 unfolding legal
 legal-hart h l = rw (eq-eqb (getD (h .x) 0 0) 0 (l .zero)) (legal-of (h .words) (l .words))
+
+-- so what leaves lawful words (a CSR write, a trap, a return: `Rattle.words.proofs.Lawful`) leaves a hart that refusal 1 lets pass
+pub words-legal : (h : Hart) (w : List ℕ) → (Lawful (h .words) → Lawful w) → legal h ≡ true → legal (hart (h .x) w) ≡ true
+words-legal h w f e =
+    let l = lawful-hart h e in
+    legal-hart (hart (h .x) w) (record { zero = l .zero; words = f (l .words) })
 
 -- register 0 is 0, whatever was put, and into however long a list
 first-zero : (x : List ℕ) → getD (set x 0 0) 0 0 ≡ 0

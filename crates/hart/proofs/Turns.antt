@@ -28,13 +28,20 @@ start source budget h m map =
 
 module _ (source : Source) (k n : ℕ) (g : Hart) (m map : List ℕ) where
   turn : stepFrom source g m map .trapped ≡ false
-      → after k (runFrom source (suc n) g m map) ≡ after (k + 1) (runFrom Fetch n (stepFrom source g m map .hart) (stepFrom source g m map .memory) map)
+      → after k (runFrom source (suc n) g m map)
+      ≡ after (k + 1) (runFrom Fetch n (stepFrom source g m map .hart) (stepFrom source g m map .memory) map)
   unfolding runFrom
   turn q = rw (q, ← add-assoc)
 
   last-turn : stepFrom source g m map .trapped ≡ true
       → after k (runFrom source (suc n) g m map)
-      ≡ record { hart = stepFrom source g m map .hart; memory = stepFrom source g m map .memory; count = k + 1; trapped = true; cause = stepFrom source g m map .cause }
+      ≡ record {
+        hart = stepFrom source g m map .hart;
+        memory = stepFrom source g m map .memory;
+        count = k + 1;
+        trapped = true;
+        cause = stepFrom source g m map .cause;
+      }
   unfolding runFrom
   last-turn q = rw q
 
@@ -45,11 +52,21 @@ module _ (whole : Run) (budget left : ℕ) (source : Source) (g : Hart) (m map :
   again h q =
       let s : left ≡ suc (left - 1) = omega arith in
       let k : budget - left + 1 ≡ budget - (left - 1) = omega arith in
-      (omega arith, now .1 ∙ ap (λ (n : ℕ). after (budget - left) (runFrom source n g m map)) s ∙ turn source (budget - left) (left - 1) g m map q ∙ rw k)
+      (
+        omega arith,
+        now .1 ∙ ap (λ (n : ℕ). after (budget - left) (runFrom source n g m map)) s ∙ turn source (budget - left) (left - 1) g m map q ∙ rw k,
+      )
 
   -- a step that traps
   pub ended : 0 < left → stepFrom source g m map .trapped ≡ true
-      → whole ≡ record { hart = stepFrom source g m map .hart; memory = stepFrom source g m map .memory; count = budget - (left - 1); trapped = true; cause = stepFrom source g m map .cause }
+      → whole
+      ≡ record {
+        hart = stepFrom source g m map .hart;
+        memory = stepFrom source g m map .memory;
+        count = budget - (left - 1);
+        trapped = true;
+        cause = stepFrom source g m map .cause;
+      }
   ended h q =
       let s : left ≡ suc (left - 1) = omega arith in
       let k : budget - left + 1 ≡ budget - (left - 1) = omega arith in
@@ -105,6 +122,7 @@ one-step source h m map =
     followed-once (stepFrom source h m map .trapped) (stepFrom source h m map) refl (no-cause (planOf source h m map))
 
 -- a step as it is handed back, from its registers, its words and what it tells
-pub handed-back : (o : Outcome) (x w : List ℕ) (trapped : Bool) (cause : ℕ) → x ≡ o .hart .x → w ≡ o .hart .words → trapped ≡ o .trapped → cause ≡ o .cause
+pub handed-back : (o : Outcome) (x w : List ℕ) (trapped : Bool) (cause : ℕ)
+    → x ≡ o .hart .x → w ≡ o .hart .words → trapped ≡ o .trapped → cause ≡ o .cause
     → _≡_ {A = Stepped} (record { hart = hart x w; trapped = trapped; cause = cause }) (steppedOf o)
 handed-back o x w trapped cause e f g h = rw (e, f, g, h)

@@ -1,7 +1,7 @@
 -- The words that refusal 1 lets pass: every write, trap and return of such words leaves such words, and every value that a CSR
 -- can hold is left by a write.
 -- Assumes nothing.
-use mathlib.Core.Path.{_≡_, refl, sym, ap, _∙_}
+use mathlib.Core.Path.{_≡_, refl, sym, _∙_}
 use mathlib.Core.Bool.{Bool, true, false, _&&_}
 use mathlib.Core.List.{List, [], _∷_}
 use Prim.Native.Nat.{ℕ, zero, suc, _%_, _^_, _<_, _≤_}
@@ -20,7 +20,6 @@ use Rattle.isa.specs.declared.Mode.{Mode}
 use Rattle.isa.specs.declared.Mode.the-variants.{User, Supervisor, Machine}
 use Rattle.status.specs.Fields.{mstatus}
 use Rattle.status.specs.Mode.{modeOf, numberOf}
-use Rattle.status.specs.Status.{statusOf}
 use Rattle.csr.specs.Row.{fours, envcfg, satp, medeleg, mseccfg, rowOf, isView}
 use Rattle.csr.specs.declared.Csr.{Csr}
 use Rattle.csr.specs.declared.Csr.the-variants.{Ssp, Sstatus, Stvec, Senvcfg, Sscratch, Sepc, Scause, Stval, Satp, Mstatus, Medeleg, Mtvec, Menvcfg, Mscratch, Mepc, Mcause, Mtval, Mseccfg}
@@ -28,8 +27,6 @@ use Rattle.csr.proofs.Made.{all-fit, all-seen, sixty-four, alike}
 use Rattle.rights.specs.Enable.{sseOf, padOf}
 use Rattle.regime.specs.Legal.{isMode}
 use Rattle.crossing.specs.Route.{toS, delegatedOf}
-use Rattle.crossing.specs.Trap.{enterM, enterS}
-use Rattle.crossing.specs.Return.{leaveM, leaveS, mppMode, sppMode}
 use Rattle.crossing.proofs.Crossed.{enter-m-legal, enter-s-legal, leave-m-legal, leave-s-legal}
 use Rattle.words.specs.Words.{_of_, _but_≔_, slotOf, flagOf, expected, COUNT, PC, MODE, ELP, SSP, STVEC, SENVCFG, SEPC, SCAUSE, STVAL, SATP, MSTATUS, MEDELEG, MTVEC, MENVCFG, MEPC, MCAUSE, MTVAL, MSECCFG}
 use Rattle.words.specs.Access.{writtenOf, csrWriteOf}
@@ -40,9 +37,9 @@ use Rattle.words.specs.Return.{backIn, mretOf, sretOf}
 -- refusal 1's test of each word
 abbrev tests : Table (ℕ → Bool)
 tests =
-    PC ⇒ (λ m. eqb (m % 4) 0) ¦ MODE ⇒ isMode ¦ ELP ⇒ (λ m. ltb m 2) ¦ SSP ⇒ (λ m. eqb (m % 8) 0) ¦ STVEC ⇒ legalOf fours ¦ SENVCFG ⇒ legalOf envcfg
-    ¦ SEPC ⇒ legalOf fours ¦ SATP ⇒ legalOf satp ¦ MSTATUS ⇒ legalOf mstatus ¦ MEDELEG ⇒ legalOf medeleg ¦ MTVEC ⇒ legalOf fours
-    ¦ MENVCFG ⇒ legalOf envcfg ¦ MEPC ⇒ legalOf fours ¦ MSECCFG ⇒ legalOf mseccfg ¦ otherwise (λ m. true)
+    PC ⇒ (λ m. eqb (m % 4) 0) ¦ MODE ⇒ isMode ¦ ELP ⇒ (λ m. ltb m 2) ¦ SSP ⇒ (λ m. eqb (m % 8) 0) ¦ STVEC ⇒ legalOf fours
+    ¦ SENVCFG ⇒ legalOf envcfg ¦ SEPC ⇒ legalOf fours ¦ SATP ⇒ legalOf satp ¦ MSTATUS ⇒ legalOf mstatus ¦ MEDELEG ⇒ legalOf medeleg
+    ¦ MTVEC ⇒ legalOf fours ¦ MENVCFG ⇒ legalOf envcfg ¦ MEPC ⇒ legalOf fours ¦ MSECCFG ⇒ legalOf mseccfg ¦ otherwise (λ m. true)
 
 -- word k can be m
 abbrev pub fits : (k m : ℕ) → Bool
@@ -73,10 +70,9 @@ lawful w e =
 pub legal-of : (w : List ℕ) → Lawful w → wordsLegal w ≡ true
 unfolding wordsLegal
 legal-of w l =
+    let size = eq-eqb (length w) COUNT (l .size) in
     let f = l .fit in
-    rw (
-      eq-eqb (length w) COUNT (l .size), f PC, f MODE, f ELP, f SSP, f STVEC, f SENVCFG, f SEPC, f SATP, f MSTATUS, f MEDELEG, f MTVEC, f MENVCFG, f MEPC, f MSECCFG,
-    )
+    rw (size, f PC, f MODE, f ELP, f SSP, f STVEC, f SENVCFG, f SEPC, f SATP, f MSTATUS, f MEDELEG, f MTVEC, f MENVCFG, f MEPC, f MSECCFG)
 
 -- a word that fits, stored
 stored : (P : ℕ → ℕ → Bool) (w : List ℕ) (k v : ℕ) → P k v ≡ true → ((j : ℕ) → P j (j of w) ≡ true) → (j : ℕ) → P j (j of (w but k ≔ v)) ≡ true
@@ -203,8 +199,8 @@ pub sret-legal : (w : List ℕ) → wordsLegal w ≡ true → wordsLegal (sretOf
 sret-legal w e = legal-of (sretOf w) (sret-lawful w (lawful w e))
 
 -- where a write of CSR n reaches every field, a word m that it can hold is left by a write of m
-pub left-by-write : (n : Csr) (w : List ℕ) (m : ℕ) → length w ≡ COUNT → allSeen (rowOf n (sseOf (MENVCFG of w))) ≡ true → m < 2 ^ 64 → holds n m ≡ true
-    → slotOf n of csrWriteOf n m w ≡ m
+pub left-by-write : (n : Csr) (w : List ℕ) (m : ℕ) → length w ≡ COUNT → allSeen (rowOf n (sseOf (MENVCFG of w))) ≡ true
+    → m < 2 ^ 64 → holds n m ≡ true → slotOf n of csrWriteOf n m w ≡ m
 unfolding writtenOf
 left-by-write n w m size e lt t =
     let sse : Bool = sseOf (MENVCFG of w) in

@@ -9,7 +9,8 @@ returns : tie.Need-returns
 returns c =
     let e = c .before .before .one .ensures in
     let a = c .before .before .before .before .before .before .before .before .before .before .before .before .args in
-    (handed-back (stepFrom (a .source) (a .self) (a .mem .now) (a .map .now)) _ _ _ _ (e .0) (e .1 .0) (e .1 .1 .1 .0 .0) (e .1 .1 .1 .0 .1), e .1 .1 .0)
+    let told = e .1 .1 .1 .0 in
+    (handed-back (stepFrom (a .source) (a .self) (a .mem .now) (a .map .now)) _ _ _ _ (e .0) (e .1 .0) (told .0) (told .1), e .1 .1 .0)
 
 pub step-spec : {M : Type 1} → statement M
 step-spec = tie.close (tie.spec (λ c κs. search needs) (λ c κs. search needs) (λ c. search needs) returns)

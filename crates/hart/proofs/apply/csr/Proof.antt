@@ -15,7 +15,8 @@ returns c =
     let p = t .before in
     let w = p .before .before .before .before .args .w .now in
     let n = p .before .before .before .before .args .n in
-    rw (p .put .ensures, c .before .before .write .ensures, c .before .before .before .merged .ensures, p .before .before .shown .ensures, t .if1 .taken) (
+    let d = c .before .before in
+    rw (p .put .ensures, d .write .ensures, d .before .merged .ensures, p .before .before .shown .ensures, t .if1 .taken) (
       refl,
       (
         refl,

@@ -6,7 +6,9 @@ use Rattle.words.proofs.legal.legal.Tie as tie
 
 returns : tie.Need-returns
 unfolding wordsLegal
-returns c = rw (c .all .ensures, c .before .csrs .ensures, c .before .before .before .before .is-mode .ensures, c .before .before .before .before .before .before .before .sized .ensures)
+returns c =
+    let b = c .before .before .before .before in
+    rw (c .all .ensures, c .before .csrs .ensures, b .is-mode .ensures, b .before .before .before .sized .ensures)
 
 pub legal-spec : {M : Type 1} → statement M
 legal-spec =

@@ -6,7 +6,9 @@ use Rattle.words.proofs.setting.setting.Tie as tie
 
 returns : tie.Need-returns
 unfolding settingOf
-returns c = rw (c .pad .ensures, c .before .permits .ensures, c .before .before .mode2 .ensures, c .before .before .before .shadow .ensures, c .before .before .before .before .control .ensures)
+returns c =
+    let b = c .before .before in
+    rw (c .pad .ensures, c .before .permits .ensures, b .mode2 .ensures, b .before .shadow .ensures, b .before .before .control .ensures)
 
 pub setting-spec : {M : Type 1} → statement M
 setting-spec =

@@ -8,13 +8,15 @@ returns : tie.Need-returns
 unfolding trapOf
 returns c =
     let b = c .before .before .before in
-    rw (← b .before .before .before .mode .ensures, ← b .before .delegated .ensures, ← b .to-s .ensures, c .before .before .if1 .taken) (c .to-s2 .ensures)
+    rw (← b .before .before .before .mode .ensures, ← b .before .delegated .ensures, ← b .to-s .ensures, c .before .before .if1 .taken)
+    (c .to-s2 .ensures)
 
 returns-2 : tie.Need-returns-2
 unfolding trapOf
 returns-2 c =
     let b = c .before .before .before in
-    rw (← b .before .before .before .mode .ensures, ← b .before .delegated .ensures, ← b .to-s .ensures, c .before .before .if1 .left) (c .to-m .ensures)
+    rw (← b .before .before .before .mode .ensures, ← b .before .delegated .ensures, ← b .to-s .ensures, c .before .before .if1 .left)
+    (c .to-m .ensures)
 
 pub enter-spec : {M : Type 1} → statement M
 enter-spec =
