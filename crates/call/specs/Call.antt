@@ -12,7 +12,7 @@ use Rattle.memory.specs.Refusal as memory
 use Rattle.page.specs.Map as page
 use Rattle.meaning.specs.declared.Source.{Source}
 use Rattle.meaning.specs.declared.Source.the-variants.{Fetch, Given}
-use Rattle.hart.specs.Legal.{legal}
+use Rattle.hart.specs.Hart.{legal}
 use Rattle.hart.specs.Run.{Run, once, runOf}
 use Rattle.hart.specs.Step.{stepFrom}
 use Rattle.hart.specs.declared.Hart.{Hart}

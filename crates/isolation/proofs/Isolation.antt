@@ -49,7 +49,7 @@ isolation = (by-step-5, by-bits)
 
 -- and more than was asked: what no valid entry with its U bit and W names keeps its bytes too, so a frame that may only be read does.
 -- (With A11 this is "written by neither", of table frames that no such leaf names.)
-pub read-only-kept : (map : List ℕ) (h : Hart) (m : List ℕ) → h .mode ≡ 0 → h .csrs .satp / 2 ^ 60 ≡ 8 → (calls : List Call)
+pub read-only-kept : (map : List ℕ) (h : Hart) (m : List ℕ) → MODE of h .words ≡ 0 → SATP of h .words / 2 ^ 60 ≡ 8 → (calls : List Call)
     → Keeps (Seen Writable (inForce h) map) m (sessionOf calls h m map .memory)
 read-only-kept map h m u s calls =
     both-rows Taken (λ c e t. t) map h m m

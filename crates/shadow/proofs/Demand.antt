@@ -26,9 +26,9 @@ use Rattle.meaning.specs.Instruction.{nextOf}
 use Rattle.effect.specs.declared.Effect.the-variants.{Pop, Trap}
 use Rattle.meaning.specs.declared.Source.{Source}
 use Rattle.hart.proofs.Lawful.{lawful, ssp-eight}
-use Rattle.hart.specs.Legal.{legal}
+use Rattle.hart.specs.Hart.{legal}
 use Rattle.regime.specs.Regime.{controlOf, shadowOn}
-use Rattle.bank.specs.Setting.{settingOf}
+use Rattle.words.specs.Setting.{settingOf}
 use Rattle.hart.specs.Step.{trapsOf, stepFrom}
 use Rattle.hart.specs.declared.Hart.{Hart}
 use Rattle.call.proofs.Accepted.{no-refusal}
@@ -43,10 +43,10 @@ use Rattle.shadow.proofs.Ties.{check-does}
 
 -- what is enough for the proof
 pub record Enough (map : List ℕ) (h₀ : Hart) (m₀ : List ℕ) : Type 0 where
-  pub eight : h₀ .ssp % 8 ≡ 0
-  pub user : h₀ .mode ≡ 0
+  pub eight : SSP of h₀ .words % 8 ≡ 0
+  pub user : MODE of h₀ .words ≡ 0
   pub sv39 : inForce h₀ .sv39 ≡ true
-  pub senvcfg : sseOf (h₀ .csrs .senvcfg) ≡ true
+  pub senvcfg : sseOf (SENVCFG of h₀ .words) ≡ true
   pub once : StandsOnce (inForce h₀) map
 
 -- a pop-check's effect is a trap exactly where the two values differ
@@ -59,8 +59,8 @@ traps-where top v ssp pc = go (eqb top v) refl
     go false e = ((λ t d. eqb-false top v e (sym d)), (λ n. refl))
 
 -- the shadow stack is on where both enables are
-on-in-user : (h : Hart) → h .mode ≡ 0 → inForce h .sse ≡ true → sseOf (h .csrs .senvcfg) ≡ true
-    → settingOf (h .mode) (h .csrs) .shadow ≡ true
+on-in-user : (h : Hart) → MODE of h .words ≡ 0 → inForce h .sse ≡ true → sseOf (SENVCFG of h .words) ≡ true
+    → settingOf (h .words) .shadow ≡ true
 unfolding settingOf controlOf shadowOn modeOf
 on-in-user h u m s = rw (u, m, s)
 
@@ -68,8 +68,8 @@ on-in-user h u m s = rw (u, m, s)
 permitted-sse : (h : Hart) (m map : List ℕ) (q : Physical) → Permitted h m map q → inForce h .sse ≡ true
 permitted-sse h m map q e =
     let c : Control = inForce h in
-    let p = place-paged c kind.Pop Double (h .ssp) map (length m) q e (shadow-paged c kind.Pop Double (h .ssp) map (length m) q e refl) in
-    both (c .sse) _ (shadow-on-shadow c kind.Pop Double (h .ssp) map (length m) q e refl (p .leaf) (p .entry)) .0
+    let p = place-paged c kind.Pop Double (SSP of h .words) map (length m) q e (shadow-paged c kind.Pop Double (SSP of h .words) map (length m) q e refl) in
+    both (c .sse) _ (shadow-on-shadow c kind.Pop Double (SSP of h .words) map (length m) q e refl (p .leaf) (p .entry)) .0
 
 module _ (map : List ℕ) (h₀ : Hart) (m₀ : List ℕ) (N : Enough map h₀ m₀) where
   abbrev G : Geometry (slot map h₀ m₀) (Shadow (inForce h₀) map) (length m₀)
@@ -80,18 +80,18 @@ module _ (map : List ℕ) (h₀ : Hart) (m₀ : List ℕ) (N : Enough map h₀ m
 
   -- every stretch keeps the invariant, and until it traps the mode and the CSRs
   held : {es : List Event} {h : Hart} {m : List ℕ} {trapped : Bool} → Stretch map h₀ m₀ es h m trapped
-      → (trapped ≡ false → Same h₀ h) × Kept es (h .ssp) m
-  held start = ((λ f. (refl, refl)), inv-start _ _ _ G (h₀ .ssp) m₀ (N .eight) refl)
+      → (trapped ≡ false → Same h₀ h) × Kept es (SSP of h .words) m
+  held start = ((λ f. (refl, refl)), inv-start _ _ _ G (SSP of h₀ .words) m₀ (N .eight) refl)
   held (step {es} {h} {m} r source ns np) =
       let (same, I) = held r in
       step-left map h₀ m₀ G (N .user) (N .sv39) (N .once) source es h m (same refl) I ns np
 
-  module _ (es : List Event) (h : Hart) (m : List ℕ) (same : Same h₀ h) (I : Kept es (h .ssp) m) where
+  module _ (es : List Event) (h : Hart) (m : List ℕ) (same : Same h₀ h) (I : Kept es (SSP of h .words) m) where
     -- what stands at the pointer is the match
     top-is : (q : Physical) → Permitted h m map q → readOf m q Double ≡ matchOf es m₀ q
     top-is q e =
-        let f = as-at-start map h₀ m₀ h m same (I .long) kind.Pop Double (h .ssp) q e in
-        I .words (h .ssp) q (I .eight) f (omega arith)
+        let f = as-at-start map h₀ m₀ h m same (I .long) kind.Pop Double (SSP of h .words) q e in
+        I .words (SSP of h .words) q (I .eight) f (omega arith)
         ∙ ap (λ (j : ℕ). getD (unmatched es) j (readOf m₀ q Double)) (omega arith)
 
     checked : (source : Source) (v : ℕ) (q : Physical) → PopCheck source h m map v → Permitted h m map q
@@ -99,7 +99,7 @@ module _ (map : List ℕ) (h₀ : Hart) (m₀ : List ℕ) (N : Enough map h₀ m
     unfolding stepFrom
     checked source v q p e =
         let on = on-in-user h (same .0 ∙ N .user) (permitted-sse h m map q e) (rw (same .1) (N .senvcfg)) in
-        rw (check-does source h m map v q p on e, ← top-is q e) (traps-where (readOf m q Double) v (h .ssp) (nextOf (h .pc)))
+        rw (check-does source h m map v q p on e, ← top-is q e) (traps-where (readOf m q Double) v (SSP of h .words) (nextOf (PC of h .words)))
 
   -- so it keeps its promise
   pub promised : (es : List Event) (h : Hart) (m : List ℕ) (trapped : Bool) → Stretch map h₀ m₀ es h m trapped

@@ -63,18 +63,18 @@ module _ (map : List ℕ) (h₀ : Hart) (m₀ : List ℕ) where
       → placeOf (inForce h) k w a map (length m) ≡ At q → placeOf c k w a map (length m₀) ≡ At q
   as-at-start h m s l k w a q e = ap₂ (λ (d : Control) (n : ℕ). placeOf d k w a map n) (sym (same-force h₀ h s)) (sym l) ∙ e
 
-  module _ (G : Geometry slot (Shadow c map) (length m₀)) (user : h₀ .mode ≡ 0) (sv39 : c .sv39 ≡ true) (once : StandsOnce c map) where
+  module _ (G : Geometry slot (Shadow c map) (length m₀)) (user : MODE of h₀ .words ≡ 0) (sv39 : c .sv39 ≡ true) (once : StandsOnce c map) where
     abbrev pub Holds : List Event → (ssp : ℕ) → (m : List ℕ) → Type 0
-    Holds es ssp m = Inv slot (Shadow c map) (length m₀) G (h₀ .ssp) m₀ es ssp m
+    Holds es ssp m = Inv slot (Shadow c map) (length m₀) G (SSP of h₀ .words) m₀ es ssp m
 
     -- what a step of effect e leaves
     abbrev pub Left : List Event → Hart → (m : List ℕ) → Effect → Type 0
     Left es h m e = Holds (eventOf e ∷ es) (applyOf e h .ssp) (memoryOf e m)
 
-    module _ (source : Source) (es : List Event) (h : Hart) (m : List ℕ) (same : Same h₀ h) (I : Holds es (h .ssp) m) where
+    module _ (source : Source) (es : List Event) (h : Hart) (m : List ℕ) (same : Same h₀ h) (I : Holds es (SSP of h .words) m) where
       -- memory and the pointer as they were
-      rests : Holds (quiet ∷ es) (h .ssp) m
-      rests = inv-quiet slot (Shadow c map) (length m₀) G (h₀ .ssp) m₀ es (h .ssp) m m I (I .long) (λ o x. refl)
+      rests : Holds (quiet ∷ es) (SSP of h .words) m
+      rests = inv-quiet slot (Shadow c map) (length m₀) G (SSP of h₀ .words) m₀ es (SSP of h .words) m m I (I .long) (λ o x. refl)
 
       -- the place that the step's access was given, as the stretch's start sees it
       placed : (k : Kind) (w : Width) (a : ℕ) (q : Physical) → placeOf (inForce h) k w a map (length m) ≡ At q
@@ -87,7 +87,7 @@ module _ (map : List ℕ) (h₀ : Hart) (m₀ : List ℕ) where
           let f = placed kind.Store w a q e in
           let i = place-within c kind.Store w a map (length m₀) q f in
           let n : length m ≡ length m₀ = I .long in
-          inv-quiet slot (Shadow c map) (length m₀) G (h₀ .ssp) m₀ es (h .ssp) m (storeOf m (q .0 - base) (sizeOf w) v) I
+          inv-quiet slot (Shadow c map) (length m₀) G (SSP of h₀ .words) m₀ es (SSP of h .words) m (storeOf m (q .0 - base) (sizeOf w) v) I
           (length-store m (q .0 - base) (sizeOf w) v (omega (arith, n, i .0, i .1)) ∙ n)
           (λ o x.
           untouched m q w v o (i .0) (omega (arith, n, i .1))
@@ -115,12 +115,12 @@ module _ (map : List ℕ) (h₀ : Hart) (m₀ : List ℕ) where
       effect-left (Push q v ssp next) o ns np =
           let (s, S, holds) = o in
           rw s
-          (inv-push slot (Shadow c map) (length m₀) G (h₀ .ssp) m₀ es (h .ssp) m v q I
-          (push-pop c Double (differenceOf (h .ssp) 8) map (length m₀) q (placed kind.Push Double (differenceOf (h .ssp) 8) q (S .place))))
+          (inv-push slot (Shadow c map) (length m₀) G (SSP of h₀ .words) m₀ es (SSP of h .words) m v q I
+          (push-pop c Double (differenceOf (SSP of h .words) 8) map (length m₀) q (placed kind.Push Double (differenceOf (SSP of h .words) 8) q (S .place))))
       effect-left (Pop ssp next) o ns np =
           let (s, q, S, equal) = o in
           rw s
-          (inv-pop slot (Shadow c map) (length m₀) G (h₀ .ssp) m₀ es (h .ssp) m q I (placed kind.Pop Double (h .ssp) q (S .place)))
+          (inv-pop slot (Shadow c map) (length m₀) G (SSP of h₀ .words) m₀ es (SSP of h .words) m q I (placed kind.Pop Double (SSP of h .words) q (S .place)))
       effect-left (Swap rd old q w v next) o ns np = absurd (ns rd old q w v next refl)
       effect-left (effect.Whole k) o ns np = whole-left k o np
       effect-left (Trap cause tval) o ns np = rw (trap-keeps h cause tval .ssp) rests
