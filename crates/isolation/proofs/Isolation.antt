@@ -4,6 +4,7 @@ use mathlib.Core.List.{List}
 use mathlib.Core.Path.{_≡_, refl}
 use Prim.Native.Nat.{ℕ, _/_, _^_}
 use Rattle.address.specs.declared.control.Control.{Control}
+use Rattle.words.specs.Words.{_of_, MODE, SATP}
 use Rattle.hart.specs.declared.Hart.{Hart}
 use Rattle.origin.specs.Force.{inForce, leafAt}
 use Rattle.origin.proofs.Users.{in-user, sv39-on}

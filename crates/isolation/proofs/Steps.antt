@@ -22,6 +22,7 @@ use Rattle.effect.specs.declared.Effect.{Effect}
 use Rattle.effect.specs.declared.Effect.the-variants.{Write, Jump, Pad, Store, Push, Pop, Swap, Trap}
 use Rattle.effect.specs.declared.Effect.the-variants as effect
 use Rattle.meaning.specs.declared.Source.{Source}
+use Rattle.words.specs.Words.{_of_, expected, PC, MODE, SSP}
 use Rattle.words.specs.Setting.{settingOf}
 use Rattle.transfer.specs.Commit.{memoryOf}
 use Rattle.hart.specs.Step.{applyOf, trapsOf, planOf}
@@ -42,10 +43,10 @@ module _ (Of To : (o : ℕ) → Type 0) (map : List ℕ) where
     pub written : Writes (inForce h) map To
 
   -- one with the same mode and CSRs is confined as well
-  stays : (h g : Hart) → Same h g → Confined h → Confined g
+  stays : (h g : Hart) → Same (h .words) (g .words) → Confined h → Confined g
   stays h g s C =
       let f = same-force h g s in
-      record { user = s .0 ∙ C .user; covered = rw f (C .covered); written = rw f (C .written) }
+      record { user = s .kept MODE refl ∙ C .user; covered = rw f (C .covered); written = rw f (C .written) }
 
   -- what an effect leaves of the two memories
   pub record Left (m n : List ℕ) (e : Effect) : Type 0 where

@@ -18,6 +18,7 @@ use lib.ListN.{getD, length}
 use Rattle.leaf.specs.Leaf.{leafOf}
 use Rattle.place.specs.Place.{base, frameOf}
 use Rattle.address.specs.declared.control.Control.{Control}
+use Rattle.words.specs.Words.{_of_, MODE, SATP}
 use Rattle.hart.specs.declared.Hart.{Hart}
 use Rattle.call.specs.Call.{Called, stepCall, stepWordCall, runCall}
 use Rattle.call.specs.declared.Answer.{Answer}

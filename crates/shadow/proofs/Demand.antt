@@ -7,7 +7,8 @@ use mathlib.Core.List.{List}
 use mathlib.Core.Logic.{_↔_}
 use mathlib.Core.Path.{_≡_, refl, sym, ap, _∙_}
 use Prim.Native.Nat.{ℕ, _%_}
-use lib.Dec.{eqb}
+use lib.Dec.{eqb, ltb}
+use Rattle.regime.specs.Legal.{isMode}
 use lib.ListN.{getD, length}
 use native.Mathlib.Omega.{arith}
 use borrow.Author.Tests.{eqb-true, eqb-false, not-false}
@@ -25,14 +26,15 @@ use Rattle.transfer.specs.Access.{readOf, poppedOf}
 use Rattle.meaning.specs.Instruction.{nextOf}
 use Rattle.effect.specs.declared.Effect.the-variants.{Pop, Trap}
 use Rattle.meaning.specs.declared.Source.{Source}
-use Rattle.hart.proofs.Lawful.{lawful, ssp-eight}
+use Rattle.words.specs.Words.{_of_, COUNT, PC, MODE, ELP, SSP, SENVCFG}
+use Rattle.words.specs.Legal.{wordsLegal}
 use Rattle.hart.specs.Hart.{legal}
 use Rattle.regime.specs.Regime.{controlOf, shadowOn}
 use Rattle.words.specs.Setting.{settingOf}
 use Rattle.hart.specs.Step.{trapsOf, stepFrom}
 use Rattle.hart.specs.declared.Hart.{Hart}
 use Rattle.call.proofs.Accepted.{no-refusal}
-use Rattle.origin.proofs.Users.{in-user, sv39-on, Same}
+use Rattle.origin.proofs.Users.{in-user, sv39-on, Same, same}
 use Rattle.origin.specs.Force.{inForce}
 use Rattle.shadow.specs.Promise.{StandsOnce, Starts, Event, Stretch, start, step, Shadow, unmatched, PopCheck, Permitted, matchOf, Promise, Claim}
 use Rattle.shadow.proofs.Geometry.{Geometry}
@@ -43,6 +45,7 @@ use Rattle.shadow.proofs.Ties.{check-does}
 
 -- what is enough for the proof
 pub record Enough (map : List ℕ) (h₀ : Hart) (m₀ : List ℕ) : Type 0 where
+  pub size : length (h₀ .words) ≡ COUNT
   pub eight : SSP of h₀ .words % 8 ≡ 0
   pub user : MODE of h₀ .words ≡ 0
   pub sv39 : inForce h₀ .sv39 ≡ true
@@ -68,29 +71,30 @@ on-in-user h u m s = rw (u, m, s)
 permitted-sse : (h : Hart) (m map : List ℕ) (q : Physical) → Permitted h m map q → inForce h .sse ≡ true
 permitted-sse h m map q e =
     let c : Control = inForce h in
-    let p = place-paged c kind.Pop Double (SSP of h .words) map (length m) q e (shadow-paged c kind.Pop Double (SSP of h .words) map (length m) q e refl) in
-    both (c .sse) _ (shadow-on-shadow c kind.Pop Double (SSP of h .words) map (length m) q e refl (p .leaf) (p .entry)) .0
+    let a : ℕ = SSP of h .words in
+    let p = place-paged c kind.Pop Double a map (length m) q e (shadow-paged c kind.Pop Double a map (length m) q e refl) in
+    both (c .sse) _ (shadow-on-shadow c kind.Pop Double a map (length m) q e refl (p .leaf) (p .entry)) .0
 
 module _ (map : List ℕ) (h₀ : Hart) (m₀ : List ℕ) (N : Enough map h₀ m₀) where
   abbrev G : Geometry (slot map h₀ m₀) (Shadow (inForce h₀) map) (length m₀)
   G = geometry (inForce h₀) map (length m₀) (in-user h₀ (N .user)) (N .sv39) (N .once)
 
   abbrev Kept : List Event → (ssp : ℕ) → (m : List ℕ) → Type 0
-  Kept es ssp m = Holds map h₀ m₀ G (N .user) (N .sv39) (N .once) es ssp m
+  Kept es ssp m = Holds map h₀ m₀ G (N .size) (N .user) (N .sv39) (N .once) es ssp m
 
   -- every stretch keeps the invariant, and until it traps the mode and the CSRs
   held : {es : List Event} {h : Hart} {m : List ℕ} {trapped : Bool} → Stretch map h₀ m₀ es h m trapped
-      → (trapped ≡ false → Same h₀ h) × Kept es (SSP of h .words) m
-  held start = ((λ f. (refl, refl)), inv-start _ _ _ G (SSP of h₀ .words) m₀ (N .eight) refl)
+      → (trapped ≡ false → Same (h₀ .words) (h .words)) × Kept es (SSP of h .words) m
+  held start = ((λ f. same (h₀ .words)), inv-start _ _ _ G (SSP of h₀ .words) m₀ (N .eight) refl)
   held (step {es} {h} {m} r source ns np) =
-      let (same, I) = held r in
-      step-left map h₀ m₀ G (N .user) (N .sv39) (N .once) source es h m (same refl) I ns np
+      let (on, I) = held r in
+      step-left map h₀ m₀ G (N .size) (N .user) (N .sv39) (N .once) source es h m (on refl) I ns np
 
-  module _ (es : List Event) (h : Hart) (m : List ℕ) (same : Same h₀ h) (I : Kept es (SSP of h .words) m) where
+  module _ (es : List Event) (h : Hart) (m : List ℕ) (S : Same (h₀ .words) (h .words)) (I : Kept es (SSP of h .words) m) where
     -- what stands at the pointer is the match
     top-is : (q : Physical) → Permitted h m map q → readOf m q Double ≡ matchOf es m₀ q
     top-is q e =
-        let f = as-at-start map h₀ m₀ h m same (I .long) kind.Pop Double (SSP of h .words) q e in
+        let f = as-at-start map h₀ m₀ h m S (I .long) kind.Pop Double (SSP of h .words) q e in
         I .words (SSP of h .words) q (I .eight) f (omega arith)
         ∙ ap (λ (j : ℕ). getD (unmatched es) j (readOf m₀ q Double)) (omega arith)
 
@@ -98,25 +102,32 @@ module _ (map : List ℕ) (h₀ : Hart) (m₀ : List ℕ) (N : Enough map h₀ m
         → (stepFrom source h m map .trapped ≡ true) ↔ (v ≡ matchOf es m₀ q → ⊥)
     unfolding stepFrom
     checked source v q p e =
-        let on = on-in-user h (same .0 ∙ N .user) (permitted-sse h m map q e) (rw (same .1) (N .senvcfg)) in
+        let on = on-in-user h (S .kept MODE refl ∙ N .user) (permitted-sse h m map q e) (rw (S .kept SENVCFG refl) (N .senvcfg)) in
         rw (check-does source h m map v q p on e, ← top-is q e) (traps-where (readOf m q Double) v (SSP of h .words) (nextOf (PC of h .words)))
 
   -- so it keeps its promise
   pub promised : (es : List Event) (h : Hart) (m : List ℕ) (trapped : Bool) → Stretch map h₀ m₀ es h m trapped
       → Promise map h₀ m₀ es h m trapped
   promised es h m trapped r =
-      let (same, I) = held r in
-      record { pointer = I .pointer; bytes = I .bytes; checks = λ f. checked es h m (same f) I }
+      let (on, I) = held r in
+      record { pointer = I .pointer; bytes = I .bytes; checks = λ f. checked es h m (on f) I }
+
+passed : (w : List ℕ) → wordsLegal w ≡ true → (length w ≡ COUNT) × (SSP of w % 8 ≡ 0)
+unfolding wordsLegal
+passed w t =
+    let (a, r) = both (eqb (length w) COUNT) _ t in
+    let (b, r2) = both (eqb (PC of w % 4) 0) _ r in
+    let (c, r3) = both (isMode (MODE of w)) _ r2 in
+    let (d, r4) = both (ltb (ELP of w) 2) _ r3 in
+    let (e, r5) = both (eqb (SSP of w % 8) 0) _ r4 in
+    (eqb-true (length w) COUNT a, eqb-true (SSP of w % 8) 0 e)
 
 -- what the user's words give is enough
 enough : (map : List ℕ) (h₀ : Hart) (m₀ : List ℕ) → Starts map h₀ m₀ → Enough map h₀ m₀
-enough map h₀ m₀ S = record {
-  eight = ssp-eight h₀ (lawful h₀ (not-false (legal h₀) (no-refusal h₀ m₀ map (S .accepted) .0)));
-  user = S .user;
-  sv39 = sv39-on h₀ (S .sv39);
-  senvcfg = S .senvcfg;
-  once = S .once;
-}
+unfolding legal
+enough map h₀ m₀ S =
+    let L = passed (h₀ .words) (both (eqb (getD (h₀ .x) 0 0) 0) _ (not-false (legal h₀) (no-refusal h₀ m₀ map (S .accepted) .0)) .1) in
+    record { size = L .0; eight = L .1; user = S .user; sv39 = sv39-on h₀ (S .sv39); senvcfg = S .senvcfg; once = S .once }
 
 -- the theorem
 pub shadow-stack : Claim
