@@ -13,7 +13,7 @@ use Rattle.word.proofs.Choices.{second}
 use Rattle.memory.specs.Refusal as memory
 use Rattle.memory.proofs.Accepted.{accepted}
 use Rattle.page.specs.Map as page
-use Rattle.hart.specs.Legal.{legal}
+use Rattle.hart.specs.Hart.{legal}
 use Rattle.hart.specs.declared.Hart.{Hart}
 use Rattle.call.specs.Call.{refusalOf, runRefusalOf}
 

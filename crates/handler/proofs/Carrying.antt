@@ -5,7 +5,6 @@ use mathlib.Core.List.{List}
 use mathlib.Core.Path.{_≡_, refl, sym, subst}
 use Prim.Native.Nat.{ℕ, _%_}
 use lib.Dec.{eqb}
-use lib.ListN.{getD, set}
 use Rattle.word.specs.Choice.{pick}
 use Rattle.word.specs.Field.{bits, fieldsOf}
 use Rattle.word.specs.declared.field.Fields.{Fields}
@@ -17,9 +16,8 @@ use Rattle.csr.specs.Row.{fours, word}
 use Rattle.rights.specs.Enable.{sseOf}
 use Rattle.effect.specs.Csrs.{csrOf, reachedOf, writesOf, mergedOf}
 use Rattle.effect.specs.Register.{regOf, putOf}
-use Rattle.bank.specs.Access.{shownOf, writtenOf}
-use Rattle.bank.specs.Setters.{storedOf, csrsOf}
-use Rattle.bank.proofs.Slots.{stored-in}
+use Rattle.words.specs.Access.{shownOf, writtenOf}
+use Rattle.words.specs.Words.{_of_, _but_≔_, slotOf, MENVCFG}
 use Rattle.handler.specs.Handler.{Handled}
 use Rattle.handler.specs.Named.{Stands, namedOf, heldOf}
 
@@ -28,19 +26,19 @@ leaves : (b : Bool) (old v : ℕ) → writeOf (pick b fours word) old v ≡ read
 leaves true old v = refl
 leaves false old v = refl
 
-shown : (k a : ℕ) (m : Mode) (rest : List ℕ) → Stands k a m → shownOf (namedOf a) (getD rest 3 0) (csrsOf rest) ≡ heldOf a (getD rest k 0)
+shown : (k a : ℕ) (m : Mode) (rest : List ℕ) → Stands k a m → shownOf (namedOf a) rest ≡ heldOf a (k of rest)
 unfolding shownOf heldOf
-shown k a m rest st = rw (st .3 (sseOf (getD rest 14 0)), stored-in (namedOf a) rest, st .1)
+shown k a m rest st = rw (st .3 (sseOf (MENVCFG of rest)), st .1)
 
-written : (k a v : ℕ) (m : Mode) (rest : List ℕ) → Stands k a m → writtenOf (namedOf a) v (getD rest 3 0) (csrsOf rest) ≡ heldOf a v
+written : (k a v : ℕ) (m : Mode) (rest : List ℕ) → Stands k a m → writtenOf (namedOf a) v rest ≡ heldOf a v
 unfolding writtenOf heldOf
-written k a v m rest st = rw (st .3 (sseOf (getD rest 14 0))) (leaves (eqb (a % 4) 1) (storedOf (namedOf a) (getD rest 3 0) (csrsOf rest)) v)
+written k a v m rest st = rw (st .3 (sseOf (MENVCFG of rest))) (leaves (eqb (a % 4) 1) (slotOf (namedOf a) of rest) v)
 
 -- the instruction was carried out
 carried : (o : CsrOperation) (rs1 rd a w k next : ℕ) (x rest : List ℕ) (m : Mode) (permitted : Bool) (x' rest' : List ℕ)
     → Stands k a m
-    → x' ≡ putOf rd (heldOf a (getD rest k 0)) x
-    → rest' ≡ pick (writesOf o rs1) (set rest k (heldOf a (mergedOf o (heldOf a (getD rest k 0)) (regOf x rs1)))) rest
+    → x' ≡ putOf rd (heldOf a (k of rest)) x
+    → rest' ≡ pick (writesOf o rs1) (rest but k ≔ heldOf a (mergedOf o (heldOf a (k of rest)) (regOf x rs1))) rest
     → Handled (csrOf o (Register rs1) rd a w x next m permitted) x rest next x' rest'
 unfolding csrOf reachedOf
 carried o rs1 rd a w k next x rest m permitted x' rest' st ex er =
@@ -48,15 +46,15 @@ carried o rs1 rd a w k next x rest m permitted x' rest' st ex er =
       refl,
       st .4,
       rw (shown k a m rest st) ex,
-      rw (shown k a m rest st, written k a (mergedOf o (heldOf a (getD rest k 0)) (regOf x rs1)) m rest st, sym (st .1)) er,
+      rw (shown k a m rest st, written k a (mergedOf o (heldOf a (k of rest)) (regOf x rs1)) m rest st, sym (st .1)) er,
     )
 
 -- the same, with the registers' numbers out of the word's fields
 pub done : (o : CsrOperation) (f : Fields) (a w k next : ℕ) (x rest : List ℕ) (m : Mode) (permitted : Bool) (x' rest' : List ℕ)
     → f ≡ fieldsOf w
     → Stands k a m
-    → x' ≡ putOf (f .rd) (heldOf a (getD rest k 0)) x
-    → rest' ≡ pick (writesOf o (f .rs1)) (set rest k (heldOf a (mergedOf o (heldOf a (getD rest k 0)) (regOf x (f .rs1))))) rest
+    → x' ≡ putOf (f .rd) (heldOf a (k of rest)) x
+    → rest' ≡ pick (writesOf o (f .rs1)) (rest but k ≔ heldOf a (mergedOf o (heldOf a (k of rest)) (regOf x (f .rs1)))) rest
     → Handled (csrOf o (Register (bits w 19 15)) (bits w 11 7) a w x next m permitted) x rest next x' rest'
 done o f a w k next x rest m permitted x' rest' e st ex er =
     subst (λ (g : Fields). Handled (csrOf o (Register (g .rs1)) (g .rd) a w x next m permitted) x rest next x' rest') e

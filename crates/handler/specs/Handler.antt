@@ -1,13 +1,12 @@
 -- What the quick way does with a CSR instruction on a trap handler's registers: it does all that the instruction's effect says, or it leaves
 -- everything as it was. It never makes a trap, and never changes a CSR that a setting depends on: whoever keeps a hart's setting at hand need not make it again.
 --
--- Below, x are the registers, rest the hart's twenty other words, of which the fourth is ssp; a name with ' is what it is afterwards. next is the
+-- Below, x are the registers, rest the hart's other words; a name with ' is what it is afterwards. next is the
 -- instruction after this one: none of these goes elsewhere.
 use mathlib.Core.Bool.{Bool, true, false}
 use mathlib.Core.List.{List}
 use mathlib.Core.Path.{_≡_}
 use Prim.Native.Nat.{ℕ}
-use lib.ListN.{getD, set}
 use Rattle.word.specs.Choice.{pick}
 use Rattle.effect.specs.Csrs.{mergedOf}
 use Rattle.effect.specs.Register.{putOf}
@@ -15,19 +14,18 @@ use Rattle.effect.specs.declared.Effect.{Effect}
 use Rattle.effect.specs.declared.Effect.the-variants.{Write, Jump, Pad, Store, Push, Pop, Swap, Whole, Trap}
 use Rattle.effect.specs.declared.Whole as kind
 use Rattle.effect.specs.declared.Whole.the-variants as whole
-use Rattle.bank.specs.Access.{shownOf, writtenOf}
-use Rattle.bank.specs.Setters.{csrsOf}
-use Rattle.bank.specs.Setting.{switchesOf}
-use Rattle.bank.specs.Words.{slotOf}
+use Rattle.words.specs.Access.{shownOf, csrWriteOf}
+use Rattle.words.specs.Setting.{switches}
+use Rattle.words.specs.Words.{slotOf}
 
 -- a CSR instruction was carried out: rd takes what the CSR showed, and where it writes, the CSR's word is what a write leaves; no CSR of these
 -- changes what the hart's mode and CSRs say
 abbrev pub Carried : kind.Whole → (x rest : List ℕ) → (next : ℕ) → (x' rest' : List ℕ) → Type 0
 Carried (whole.Csr o n writes v rd to) x rest next x' rest' =
     (to ≡ next)
-    × (switchesOf n ≡ false)
-    × (x' ≡ putOf rd (shownOf n (getD rest 3 0) (csrsOf rest)) x)
-    × (rest' ≡ pick writes (set rest (slotOf n) (writtenOf n (mergedOf o (shownOf n (getD rest 3 0) (csrsOf rest)) v) (getD rest 3 0) (csrsOf rest))) rest)
+    × (switches (slotOf n) ≡ false)
+    × (x' ≡ putOf rd (shownOf n rest) x)
+    × (rest' ≡ pick writes (csrWriteOf n (mergedOf o (shownOf n rest) v) rest) rest)
 Carried whole.Mret x rest next x' rest' = ⊥
 Carried whole.Sret x rest next x' rest' = ⊥
 

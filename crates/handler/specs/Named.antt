@@ -1,5 +1,5 @@
--- The eight registers of a trap handler: scratch, epc, cause and tval, of M and of S. Four addresses of a mode follow each other, and so do their words among a hart's
--- twenty; so numbers say all, and an address is only named here.
+-- The eight registers of a trap handler: scratch, epc, cause and tval, of M and of S. Four addresses of a mode follow each other, and so do their words among a hart's;
+-- so numbers say all, and an address is only named here.
 use mathlib.Core.Bool.{Bool, false}
 use mathlib.Core.List.{List}
 use mathlib.Core.Path.{_≡_}
@@ -13,8 +13,8 @@ use Rattle.csr.specs.declared.Csr.{Csr}
 use Rattle.csr.specs.declared.Csr.the-variants.{Sscratch, Sepc, Scause, Stval, Mscratch, Mepc, Mcause, Mtval}
 use Rattle.rights.specs.Reach.{reachOf}
 use Rattle.rights.specs.declared.reach.Reached.the-variants.{To}
-use Rattle.bank.specs.Setting.{switchesOf}
-use Rattle.bank.specs.Words.{slotOf}
+use Rattle.words.specs.Setting.{switches}
+use Rattle.words.specs.Words.{COUNT, slotOf}
 use Rattle.handler.specs.declared.Found.{Found}
 use Rattle.handler.specs.declared.Found.the-variants.{At, Nowhere}
 
@@ -44,11 +44,11 @@ heldOf address v = readOf (rowAt address) v
 -- mode m reaches, by this address, the CSR that it names: its word is the one at k, its row the address' own, and no setting depends on it
 abbrev pub Stands : (k address : ℕ) → Mode → Type 0
 Stands k address m =
-    (k < 20)
+    (k < COUNT)
     × (k ≡ slotOf (namedOf address))
     × ((permitted : Bool) → reachOf m permitted address ≡ To (namedOf address))
     × ((sse : Bool) → rowOf (namedOf address) sse ≡ rowAt address)
-    × (switchesOf (namedOf address) ≡ false)
+    × (switches (slotOf (namedOf address)) ≡ false)
 
 -- an address that was found is one of the eight; one that was not goes the whole way
 abbrev pub Finds : Found → (address : ℕ) → Mode → Type 0

@@ -15,7 +15,6 @@ ghost use mathlib.Core.Bool.{Bool};
 ghost use mathlib.Core.List.{List};
 ghost use mathlib.Core.Path.{_≡_};
 ghost use Prim.Native.Nat.{ℕ, _<_};
-ghost use lib.ListN.{getD, set};
 ghost use Rattle.word.specs.Choice.{pick};
 ghost use Rattle.word.specs.Field.{bits};
 ghost use Rattle.isa.specs.declared.CsrSource.the-variants.{Register};
@@ -24,6 +23,7 @@ ghost use Rattle.status.specs.Mode.{modeOf};
 ghost use Rattle.effect.specs.Csrs.{csrOf, writesOf, mergedOf};
 ghost use Rattle.effect.specs.Register.{regOf, putOf};
 ghost use Rattle.regime.specs.declared.Setting.{Setting};
+ghost use Rattle.words.specs.Words.{_of_, _but_≔_, COUNT, MODE};
 ghost use Rattle.meaning.specs.Instruction.{executeOf, nextOf};
 ghost use Rattle.handler.specs.Handler.{Handles};
 ghost use Rattle.handler.specs.Named.{Finds, heldOf};
@@ -68,7 +68,7 @@ fn held(address: u16, v: u64) -> u64
 // v at k, where an instruction writes. A function of its own, since the proof of a branch that others follow on is longer.
 fn store(rest: &mut [u64; COUNT], k: usize, writes: bool, v: u64)
     requires { ⌜ k < COUNT ⌝ }
-    ensures { λ _. ⌜ now (rest .exit) ≡ pick writes (set (now (rest .entry)) k v) (now (rest .entry)) ⌝ }
+    ensures { λ _. ⌜ now (rest .exit) ≡ pick writes (now (rest .entry) but k ≔ v) (now (rest .entry)) ⌝ }
 {
     if writes {
         rest[k] = v;
@@ -87,9 +87,9 @@ fn csr(
     address: u16,
 )
     requires { ⌜ k < COUNT ⌝ }
-    ensures { λ _. ⌜ (now (x .exit) ≡ putOf rd (heldOf address (getD (now (rest .entry)) k 0)) (now (x .entry)))
+    ensures { λ _. ⌜ (now (x .exit) ≡ putOf rd (heldOf address (k of now (rest .entry))) (now (x .entry)))
         × (now (rest .exit) ≡ pick (writesOf o rs1)
-        (set (now (rest .entry)) k (heldOf address (mergedOf o (heldOf address (getD (now (rest .entry)) k 0)) (regOf (now (x .entry)) rs1))))
+        (now (rest .entry) but k ≔ heldOf address (mergedOf o (heldOf address (k of now (rest .entry))) (regOf (now (x .entry)) rs1)))
         (now (rest .entry))) ⌝ }
 {
     let old = held(address, rest[k]);
@@ -102,7 +102,7 @@ fn csr(
 // A word whose opcode and funct3 are those of CSR operation o with a register.
 fn csr_word(w: u32, x: &mut [u64; 32], rest: &mut [u64; COUNT], o: CsrOperation) -> bool
     ensures { λ r. ⌜ ((next : ℕ) (permitted : Bool)
-        → Handles r (csrOf o (Register (bits w 19 15)) (bits w 11 7) (bits w 31 20) w (now (x .entry)) next (modeOf (getD (now (rest .entry)) 1 0)) permitted)
+        → Handles r (csrOf o (Register (bits w 19 15)) (bits w 11 7) (bits w 31 20) w (now (x .entry)) next (modeOf (MODE of now (rest .entry))) permitted)
         (now (x .entry)) (now (rest .entry)) next (now (x .exit)) (now (rest .exit))) ⌝ }
 {
     let address = (w / 1048576 % 4096) as u16;
@@ -116,10 +116,10 @@ fn csr_word(w: u32, x: &mut [u64; 32], rest: &mut [u64; COUNT], o: CsrOperation)
     }
 }
 
-// One word, by funct3 and opcode, on the registers x and the hart's twenty other words; whether it was done. If so, pc goes on to the next
+// One word, by funct3 and opcode, on the registers x and the hart's other words; whether it was done. If so, pc goes on to the next
 // instruction, which is left to the caller.
 pub fn handle(w: u32, x: &mut [u64; 32], rest: &mut [u64; COUNT]) -> bool
-    ensures { λ r. ⌜ ((pc ssp : ℕ) (s : Setting) (m map : List ℕ) → s .control .mode ≡ modeOf (getD (now (rest .entry)) 1 0)
+    ensures { λ r. ⌜ ((pc ssp : ℕ) (s : Setting) (m map : List ℕ) → s .control .mode ≡ modeOf (MODE of now (rest .entry))
         → Handles r (executeOf (decodeOf w) w (now (x .entry)) pc ssp s m map)
         (now (x .entry)) (now (rest .entry)) (nextOf pc) (now (x .exit)) (now (rest .exit))) ⌝ }
 {

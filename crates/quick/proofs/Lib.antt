@@ -1,6 +1,4 @@
 -- The laws of the quick way that belong to no one function.
-pub mod Ways
-pub mod Loaded
-pub mod Parts
+pub mod Padless
 pub mod Seeing
 pub mod Values

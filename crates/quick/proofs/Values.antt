@@ -11,9 +11,9 @@ use Rattle.effect.specs.declared.Effect.the-variants.{Write}
 use Rattle.meaning.specs.Instruction.{nextOf, executeOf}
 use Rattle.quick.specs.Quick.{Computes}
 use Rattle.value.specs.Value.{Writes}
-use Rattle.quick.specs.declared.Tried.{Tried}
+use Rattle.moves.specs.declared.Tried.{Tried}
 use Rattle.value.specs.declared.Value.{Value}
-use Rattle.quick.proofs.Ways.{wrote-does}
+use Rattle.moves.proofs.Ways.{wrote-does}
 
 -- known, it is written
 known-writes : (k : Bool) (i : Instruction) (f : Fields) (a b v : ℕ) → k ≡ true → Writes k i f a b v → Writes true i f a b v

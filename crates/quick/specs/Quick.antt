@@ -1,60 +1,22 @@
--- What the quick way does with an instruction: it does all that the instruction's effect says, or it leaves everything as it was.
---
--- Below, x are the registers, rest the hart's twenty other words, of which the fourth is ssp, m memory; a name with ' is what it
--- is afterwards. s is what the hart's mode and CSRs say.
-use mathlib.Core.Bool.{Bool, true, false}
+-- What the quick way does with an instruction that touches the registers and pc alone, and what it sees of memory.
+use mathlib.Core.Bool.{Bool, true}
 use mathlib.Core.List.{List}
 use mathlib.Core.Path.{_≡_}
 use Prim.Native.Nat.{ℕ}
-use lib.ListN.{set}
-use Rattle.word.specs.declared.field.Fields.{Fields}
-use Rattle.word.specs.Sum.{sumOf}
 use Rattle.isa.specs.declared.Instruction.{Instruction}
-use Rattle.address.specs.Control.{flatOf}
-use Rattle.transfer.specs.Commit.{memoryOf}
-use Rattle.effect.specs.Register.{regOf, putOf}
 use Rattle.regime.specs.declared.Setting.{Setting}
-use Rattle.effect.specs.declared.Effect.{Effect}
-use Rattle.effect.specs.declared.Effect.the-variants.{Write, Jump, Pad, Store, Push, Pop, Swap, Whole, Trap}
-use Rattle.meaning.specs.Instruction.{nextOf, executeOf}
+use Rattle.meaning.specs.Instruction.{executeOf}
 use Rattle.meaning.specs.declared.Fetched.{Fetched}
 use Rattle.meaning.specs.declared.Fetched.the-variants as fetched
-use Rattle.quick.specs.declared.Tried.{Tried}
+use Rattle.moves.specs.Moves.{Does}
+use Rattle.moves.specs.declared.Tried.{Tried}
 use Rattle.quick.specs.declared.opcodes.Seen.{Seen}
-
--- an effect was applied: pc', registers, words and memory are what it says. It never is a trap, nor a jump to a landing pad, nor
--- one that changes more than these
-abbrev pub Applied : Effect → (x rest m : List ℕ) → (pc' : ℕ) → (x' rest' m' : List ℕ) → Type 0
-Applied (Write rd v next) x rest m pc' x' rest' m' = (pc' ≡ next) × (x' ≡ putOf rd v x) × (rest' ≡ rest) × (m' ≡ m)
-Applied (Jump rd link next pad) x rest m pc' x' rest' m' =
-    (pad ≡ false) × (pc' ≡ next) × (x' ≡ putOf rd link x) × (rest' ≡ rest) × (m' ≡ m)
-Applied (Pad next) x rest m pc' x' rest' m' = ⊥
-Applied (Store q w v next) x rest m pc' x' rest' m' =
-    (pc' ≡ next) × (x' ≡ x) × (rest' ≡ rest) × (m' ≡ memoryOf (Store q w v next) m)
-Applied (Push q v top next) x rest m pc' x' rest' m' =
-    (pc' ≡ next) × (x' ≡ x) × (rest' ≡ set rest 3 top) × (m' ≡ memoryOf (Push q v top next) m)
-Applied (Pop top next) x rest m pc' x' rest' m' = (pc' ≡ next) × (x' ≡ x) × (rest' ≡ set rest 3 top) × (m' ≡ m)
-Applied (Swap rd old q w v next) x rest m pc' x' rest' m' = ⊥
-Applied (Whole k) x rest m pc' x' rest' m' = ⊥
-Applied (Trap cause tval) x rest m pc' x' rest' m' = ⊥
-
--- done, or nothing changed
-abbrev pub Does : (done : Bool) → Effect → (x rest m : List ℕ) → (pc' : ℕ) → (x' rest' m' : List ℕ) → Type 0
-Does true e x rest m pc' x' rest' m' = Applied e x rest m pc' x' rest' m'
-Does false e x rest m pc' x' rest' m' = (x' ≡ x) × (rest' ≡ rest) × (m' ≡ m)
 
 -- an instruction that touches the registers and pc alone, whatever the rest of the hart and memory are; pad is the pad enable
 abbrev pub Computes : Instruction → (w : ℕ) → (x : List ℕ) → (pc : ℕ) → (pad : Bool) → Tried → (x' : List ℕ) → Type 0
 Computes i w x pc pad t x' =
     (ssp : ℕ) (s : Setting) (rest m map : List ℕ) → s .pad ≡ pad
     → Does (t .done) (executeOf i w x pc ssp s m map) x rest m (t .pc) x' rest m
-
--- what a load with these fields and this offset puts into its register, from address a and memory m, where loads are neither masked nor translated
-abbrev pub Loads : (known : Bool) → Instruction → Fields → (off a : ℕ) → (m : List ℕ) → (v : ℕ) → Type 0
-Loads true i f off a m v =
-    (w pc ssp : ℕ) (x map : List ℕ) (s : Setting) → flatOf (s .control) ≡ true → a ≡ sumOf (regOf x (f .rs1)) off
-    → executeOf i w x pc ssp s m map ≡ Write (f .rd) v (nextOf pc)
-Loads false i f off a m v = Unit {0}
 
 -- a word that was seen is the one that a fetch gives
 abbrev pub Sees : Seen → Fetched → Type 0

@@ -2,16 +2,17 @@
 // function, writes rd, and says where pc goes on; a jump that traps, or that must land on a pad, is left undone.
 //
 // A branch writes 0 to register 0, as its effect says: so what is left of the registers is the effect's, whatever they held.
-use super::Tried;
 use effect::compute;
 use effect::jump;
-use effect::register;
 use effect::register::reg;
 use isa::Instruction;
+use moves::Tried;
+use moves::undone;
+use moves::wrote;
 use word::field;
 use word::immediate;
 use word::sum;
-ghost use mathlib.Core.Bool.{Bool, true, false};
+ghost use mathlib.Core.Bool.{Bool};
 ghost use mathlib.Core.List.{List};
 ghost use mathlib.Core.Path.{_≡_};
 ghost use Prim.Native.Nat.{ℕ};
@@ -20,29 +21,8 @@ ghost use Rattle.word.specs.Immediate.{immI, immB, immU, immJ};
 ghost use Rattle.isa.specs.declared.Instruction.the-variants.{Lui, Auipc, Jal};
 ghost use Rattle.base.specs.Base.{jalrOf, branchOf, opImmOf, opImm32Of, opOf, op32Of};
 ghost use Rattle.effect.specs.Jump.{jalOf};
-ghost use Rattle.effect.specs.Register.{putOf};
-ghost use Rattle.quick.specs.Quick.{Does, Computes};
-
-// Nothing is changed: the whole way does the instruction.
-pub fn undone(pc: u64) -> Tried
-    ensures { λ r. ⌜ r ≡ record { done = false; pc = pc } ⌝ }
-{
-    Tried {
-        done: false,
-        pc: pc,
-    }
-}
-
-// Done: rd takes v, and pc goes on at `next`.
-pub fn wrote(x: &mut [u64; 32], rd: u8, v: u64, next: u64) -> Tried
-    ensures { λ r. ⌜ (r ≡ record { done = true; pc = next }) × (now (x .exit) ≡ putOf rd v (now (x .entry))) ⌝ }
-{
-    register::put(x, rd, v);
-    Tried {
-        done: true,
-        pc: next,
-    }
-}
+ghost use Rattle.moves.specs.Moves.{Does};
+ghost use Rattle.quick.specs.Quick.{Computes};
 
 // To a target, with the link in rd: JAL, JALR where no landing pad is expected, and a branch that is taken, whose rd is 0.
 fn jumped(x: &mut [u64; 32], rd: u8, link: u64, target: u64, pc: u64) -> Tried

@@ -4,15 +4,7 @@
 //
 // Its own crate, since it is a second way to the same effects: the definitions are those of `execute`, and nothing here adds to them.
 
-// What touches the registers and pc alone: RV64I, M, and what is taken from Zbb.
+// What touches the registers and pc alone: RV64I, M, and what is taken from Zbb. Loads and stores are crate `moves`'s.
 mod compute;
-// Loads, stores, push and pop-check.
-mod access;
 // The fetch, and the major opcodes.
 pub mod opcodes;
-
-// Whether an instruction was done, and then pc after it.
-pub struct Tried {
-    pub done: bool,
-    pub pc: u64,
-}

@@ -1,15 +1,15 @@
 // The quick way's two ends: the fetch, and the instruction of a word by its major opcode.
-use super::Tried;
-use super::access;
 use super::compute;
-use regime::Setting;
+use moves::Tried;
+use moves::access;
 use place::window::Window;
+use regime::Setting;
 use word::sum;
 use words::COUNT;
 ghost use mathlib.Core.List.{List};
 ghost use mathlib.Core.Path.{_≡_};
 ghost use Prim.Native.Nat.{ℕ, _+_, _-_, _^_, _≤_};
-ghost use lib.ListN.{length, getD};
+ghost use lib.ListN.{length};
 ghost use Rattle.address.specs.Control.{flatOf};
 ghost use Rattle.address.specs.declared.control.Control.{Control};
 ghost use Rattle.decoder.specs.Decode.{decodeOf};
@@ -17,7 +17,9 @@ ghost use Rattle.place.specs.Window.{Shows};
 ghost use Rattle.meaning.specs.Instruction.{executeOf};
 ghost use Rattle.meaning.specs.Plan.{fetchedOf};
 ghost use Rattle.meaning.specs.declared.Source.the-variants.{Fetch};
-ghost use Rattle.quick.specs.Quick.{Does, Sees};
+ghost use Rattle.words.specs.Words.{_of_, SSP};
+ghost use Rattle.moves.specs.Moves.{Does};
+ghost use Rattle.quick.specs.Quick.{Sees};
 
 // The word at pc, if the window covers it.
 pub struct Seen {
@@ -59,7 +61,7 @@ pub fn word(
     map: &[u64],
 ) -> Tried
     requires { ⌜ (length (now mem) ≤ 2 ^ 20) × (flat ≡ flatOf (s .control)) ⌝ }
-    ensures { λ r. ⌜ Does (r .done) (executeOf (decodeOf w) w (now (x .entry)) pc (getD (now (rest .entry)) 3 0) s (now (mem .entry)) (now (map .entry))) (now (x .entry)) (now (rest .entry)) (now (mem .entry)) (r .pc) (now (x .exit)) (now (rest .exit)) (now (mem .exit)) ⌝ }
+    ensures { λ r. ⌜ Does (r .done) (executeOf (decodeOf w) w (now (x .entry)) pc (SSP of now (rest .entry)) s (now (mem .entry)) (now (map .entry))) (now (x .entry)) (now (rest .entry)) (now (mem .entry)) (r .pc) (now (x .exit)) (now (rest .exit)) (now (mem .exit)) ⌝ }
 {
     match w % 128 {
         0b0110111 => compute::lui(w, x, pc),
@@ -74,6 +76,6 @@ pub fn word(
         0b0110011 => compute::op(w, x, pc),
         0b0111011 => compute::op_32(w, x, pc),
         0b1110011 => access::shadow(w, x, rest, pc, s, mem, map),
-        _ => compute::undone(pc),
+        _ => moves::undone(pc),
     }
 }

@@ -6,12 +6,6 @@ use borrow.Author.Needs.{needs}
 use Rattle.call.proofs.run_refusal.Statement.{statement}
 use Rattle.call.proofs.run_refusal.Tie as tie
 
-refusal-requires : tie.Need-refusal-requires
-refusal-requires c κs = search needs
-
-over-requires : tie.Need-over-requires
-over-requires c κs = search needs
-
 returns : tie.Need-returns
 unfolding runRefusalOf
 returns c = rw (sym (c .before .before .refusal .ensures) ∙ c .before .if1 .taken, c .over .ensures)
@@ -21,4 +15,4 @@ unfolding runRefusalOf
 returns-2 c = rw (← c .before .refusal .ensures, ne-eqb _ _ (c .if1 .left))
 
 pub run-refusal-spec : {M : Type 1} → statement M
-run-refusal-spec = tie.close (tie.spec refusal-requires over-requires returns returns-2)
+run-refusal-spec = tie.close (tie.spec (λ c κs. search needs) (λ c κs. search needs) returns returns-2)

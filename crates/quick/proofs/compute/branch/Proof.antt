@@ -3,7 +3,7 @@ use mathlib.Core.Path.{sym, _∙_}
 use Rattle.base.specs.Base.{branchOf}
 use Rattle.effect.specs.Jump.{branchOf as takenOf}
 use Rattle.meaning.specs.Instruction.{executeOf}
-use Rattle.quick.proofs.Ways.{read, does-as, wrote-does, undone-does}
+use Rattle.moves.proofs.Ways.{read, does-as, wrote-does, undone-does}
 use borrow.Author.Needs.{needs}
 use Rattle.quick.proofs.compute.branch.Statement.{statement}
 use Rattle.quick.proofs.compute.branch.Tie as tie

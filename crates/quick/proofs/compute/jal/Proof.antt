@@ -1,5 +1,5 @@
 -- `quick::compute::jal` meets its contract: a jump to its target. Assumes nothing.
-use Rattle.quick.proofs.Ways.{does-as}
+use Rattle.moves.proofs.Ways.{does-as}
 use Rattle.meaning.specs.Instruction.{executeOf}
 use borrow.Author.Needs.{needs}
 use Rattle.quick.proofs.compute.jal.Statement.{statement}

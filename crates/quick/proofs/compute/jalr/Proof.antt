@@ -2,7 +2,8 @@
 use Rattle.base.specs.Base.{jalrOf}
 use Rattle.effect.specs.Jump.{jalrOf as jumpOf}
 use Rattle.meaning.specs.Instruction.{executeOf}
-use Rattle.quick.proofs.Ways.{read, undone-does, padless}
+use Rattle.moves.proofs.Ways.{read, undone-does}
+use Rattle.quick.proofs.Padless.{padless}
 use borrow.Author.Needs.{needs}
 use Rattle.quick.proofs.compute.jalr.Statement.{statement}
 use Rattle.quick.proofs.compute.jalr.Tie as tie

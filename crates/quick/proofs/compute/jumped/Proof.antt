@@ -2,7 +2,7 @@
 use Rattle.word.proofs.Choices.{first}
 use borrow.Author.Tests.{eq-eqb}
 use Rattle.effect.specs.Jump.{jalOf}
-use Rattle.quick.proofs.Ways.{wrote-does, undone-does}
+use Rattle.moves.proofs.Ways.{wrote-does, undone-does}
 use borrow.Author.Needs.{needs}
 use Rattle.quick.proofs.compute.jumped.Statement.{statement}
 use Rattle.quick.proofs.compute.jumped.Tie as tie

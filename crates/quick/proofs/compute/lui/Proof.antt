@@ -1,6 +1,6 @@
 -- `quick::compute::lui` meets its contract: a register written. Assumes nothing.
 use Rattle.meaning.specs.Instruction.{executeOf}
-use Rattle.quick.proofs.Ways.{wrote-does}
+use Rattle.moves.proofs.Ways.{wrote-does}
 use borrow.Author.Needs.{needs}
 use Rattle.quick.proofs.compute.lui.Statement.{statement}
 use Rattle.quick.proofs.compute.lui.Tie as tie

@@ -1,7 +1,7 @@
 -- `quick::compute::op_imm_32` meets its contract: the register takes the value that its table tells, or there is no such instruction. Assumes nothing.
 use mathlib.Core.Path.{refl}
 use Rattle.quick.proofs.Values.{value-does}
-use Rattle.quick.proofs.Ways.{undone-does}
+use Rattle.moves.proofs.Ways.{undone-does}
 use borrow.Author.Needs.{needs}
 use Rattle.quick.proofs.compute.op_imm_32.Statement.{statement}
 use Rattle.quick.proofs.compute.op_imm_32.Tie as tie

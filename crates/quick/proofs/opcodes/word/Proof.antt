@@ -1,7 +1,7 @@
 -- `quick::opcodes::word` meets its contract: a major opcode an arm, the rows of `opcodes`. Assumes nothing.
 use mathlib.Core.Path.{refl}
 use Rattle.decoder.specs.Decode.{decodeOf}
-use Rattle.quick.proofs.Ways.{undone-does}
+use Rattle.moves.proofs.Ways.{undone-does}
 use borrow.Author.Needs.{needs}
 use Rattle.quick.proofs.opcodes.word.Statement.{statement}
 use Rattle.quick.proofs.opcodes.word.Tie as tie

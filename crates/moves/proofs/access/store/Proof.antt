@@ -1,0 +1,40 @@
+-- `moves::access::store` meets its contract: the access of a store. Assumes nothing.
+use Rattle.base.specs.Base.{storeOf}
+use Rattle.transfer.specs.Access.{accessOf, passedOf}
+use Rattle.meaning.specs.Instruction.{executeOf}
+use Rattle.moves.proofs.Ways.{read, does-as, undone-does}
+use Rattle.moves.proofs.Parts.{store-parts}
+use borrow.Author.Needs.{needs}
+use Rattle.moves.proofs.access.store.Statement.{statement}
+use Rattle.moves.proofs.access.store.Tie as tie
+
+returns : tie.Need-returns
+unfolding executeOf accessOf passedOf
+returns c =
+    let r = c .before .before in
+    let a = r .before .before in
+    let l = a .before .before .before .before in
+    let k = l .before .before .before in
+    let d = k .before .before in
+    let told = read storeOf (d .before .before .split .ensures) (d .before .imm-s .ensures) (d .store .ensures) (k .k .given .1) in
+    λ ssp rest. does-as (r .store-at .result) _ _ _ rest _ _ rest _ (rw (told, l .k2 .given .1, a .reg2 .ensures, a .before .sum .ensures, a .before .before .reg .ensures) (store-parts _ _ _ _ _ _ _ _)) (r .store-at .ensures _ rest)
+
+pub store-spec : {M : Type 1} → statement M
+store-spec =
+    tie.close
+    (tie.spec
+    (λ c κs. search needs)
+    (λ c κs. search needs)
+    (λ c κs. search needs)
+    (λ c. search needs)
+    (λ c. search needs)
+    (λ c κs. search needs)
+    (λ c κs. search needs)
+    (λ c κs. search needs)
+    (λ c κs. search needs)
+    (λ c κs. search needs)
+    (λ c κs. search needs)
+    (λ c. search needs)
+    returns
+    (λ c. λ ssp rest. undone-does _ _ (c .undone .ensures) _ _ rest _)
+    (λ c. λ ssp rest. undone-does _ _ (c .undone2 .ensures) _ _ rest _))
