@@ -7,8 +7,7 @@ use mathlib.Core.List.{List}
 use mathlib.Core.Logic.{_↔_}
 use mathlib.Core.Path.{_≡_, refl, sym, ap, _∙_}
 use Prim.Native.Nat.{ℕ, _%_}
-use lib.Dec.{eqb, ltb}
-use Rattle.regime.specs.Legal.{isMode}
+use lib.Dec.{eqb}
 use lib.ListN.{getD, length}
 use native.Mathlib.Omega.{arith}
 use borrow.Author.Tests.{eqb-true, eqb-false, not-false}
@@ -26,8 +25,9 @@ use Rattle.transfer.specs.Access.{readOf, poppedOf}
 use Rattle.meaning.specs.Instruction.{nextOf}
 use Rattle.effect.specs.declared.Effect.the-variants.{Pop, Trap}
 use Rattle.meaning.specs.declared.Source.{Source}
-use Rattle.words.specs.Words.{_of_, COUNT, PC, MODE, ELP, SSP, SENVCFG}
-use Rattle.words.specs.Legal.{wordsLegal}
+use Rattle.words.specs.Words.{_of_, COUNT, PC, MODE, SSP, SENVCFG}
+use Rattle.words.proofs.Lawful.{ssp-eight}
+use Rattle.hart.proofs.Steps.{lawful-hart}
 use Rattle.hart.specs.Hart.{legal}
 use Rattle.regime.specs.Regime.{controlOf, shadowOn}
 use Rattle.words.specs.Setting.{settingOf}
@@ -112,22 +112,18 @@ module _ (map : List ℕ) (h₀ : Hart) (m₀ : List ℕ) (N : Enough map h₀ m
       let (on, I) = held r in
       record { pointer = I .pointer; bytes = I .bytes; checks = λ f. checked es h m (on f) I }
 
-passed : (w : List ℕ) → wordsLegal w ≡ true → (length w ≡ COUNT) × (SSP of w % 8 ≡ 0)
-unfolding wordsLegal
-passed w t =
-    let (a, r) = both (eqb (length w) COUNT) _ t in
-    let (b, r2) = both (eqb (PC of w % 4) 0) _ r in
-    let (c, r3) = both (isMode (MODE of w)) _ r2 in
-    let (d, r4) = both (ltb (ELP of w) 2) _ r3 in
-    let (e, r5) = both (eqb (SSP of w % 8) 0) _ r4 in
-    (eqb-true (length w) COUNT a, eqb-true (SSP of w % 8) 0 e)
-
 -- what the user's words give is enough
 enough : (map : List ℕ) (h₀ : Hart) (m₀ : List ℕ) → Starts map h₀ m₀ → Enough map h₀ m₀
-unfolding legal
 enough map h₀ m₀ S =
-    let L = passed (h₀ .words) (both (eqb (getD (h₀ .x) 0 0) 0) _ (not-false (legal h₀) (no-refusal h₀ m₀ map (S .accepted) .0)) .1) in
-    record { size = L .0; eight = L .1; user = S .user; sv39 = sv39-on h₀ (S .sv39); senvcfg = S .senvcfg; once = S .once }
+    let L = lawful-hart h₀ (not-false (legal h₀) (no-refusal h₀ m₀ map (S .accepted) .0)) .words in
+    record {
+      size = L .size;
+      eight = ssp-eight (h₀ .words) L;
+      user = S .user;
+      sv39 = sv39-on h₀ (S .sv39);
+      senvcfg = S .senvcfg;
+      once = S .once;
+    }
 
 -- the theorem
 pub shadow-stack : Claim

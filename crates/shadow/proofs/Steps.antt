@@ -9,7 +9,6 @@ use Prim.Native.Nat.{ℕ, _+_, _-_, _≤_, _<_}
 use lib.ListN.{getD, length, length-set}
 use lib.Seq.{getD-set-same, getD-set-other}
 use native.Mathlib.Omega.{arith}
-use Rattle.word.specs.Choice.{pick}
 use Rattle.word.specs.Sum.{differenceOf}
 use Rattle.isa.specs.Size.{sizeOf}
 use Rattle.isa.specs.declared.CsrOperation.{CsrOperation}
@@ -35,11 +34,8 @@ use Rattle.meaning.specs.declared.Source.{Source}
 use Rattle.effect.specs.declared.Whole.{Whole}
 use Rattle.effect.specs.declared.Whole.the-variants as whole
 use Rattle.transfer.specs.Commit.{memoryOf}
-use Rattle.words.specs.Words.{_of_, _but_≔_, COUNT, PC, MODE, ELP, SSP, MEDELEG}
-use Rattle.crossing.specs.Route.{toS, delegatedOf}
-use Rattle.status.specs.Mode.{modeOf}
-use Rattle.words.specs.Trap.{trapOf, trapM, trapS}
-use Rattle.words.proofs.Stored.{trap-m-only, trap-s-only}
+use Rattle.words.specs.Words.{_of_, _but_≔_, COUNT, PC, MODE, ELP, SSP}
+use Rattle.words.proofs.Kept.{trap-keeps}
 use Rattle.hart.specs.Step.{csrOf, wholeOf, applyOf, planOf, stepFrom}
 use Rattle.hart.specs.declared.Hart.{Hart}
 use Rattle.origin.proofs.Origins.{Origin, WholeOrigin, origin}
@@ -56,17 +52,6 @@ untouched : (m : List ℕ) (q : Physical) (w : Width) (v o : ℕ) → base ≤ q
     → getD (storeOf m (q .0 - base) (sizeOf w) v) o 0 ≡ getD m o 0
 untouched m q w v o l f (inl b) = byte-before m (q .0 - base) (sizeOf w) v (omega arith) o (omega arith)
 untouched m q w v o l f (inr b) = byte-after m (q .0 - base) (sizeOf w) v (omega arith) o (omega arith)
-
--- nor does a trap move the pointer
-trap-stays : (w : List ℕ) (cause tval : ℕ) → SSP of trapOf w cause tval ≡ SSP of w
-unfolding trapOf
-trap-stays w cause tval = go (toS (modeOf (MODE of w)) (delegatedOf (MEDELEG of w) cause))
-  where
-    go : (b : Bool) → SSP of pick b (trapS w cause tval) (trapM w cause tval) ≡ SSP of w
-    go true = trap-s-only w cause tval .kept SSP
-        (omega arith, (omega arith, (omega arith, (omega arith, (omega arith, (omega arith, (omega arith, tt)))))))
-    go false = trap-m-only w cause tval .kept SSP
-        (omega arith, (omega arith, (omega arith, (omega arith, (omega arith, (omega arith, (omega arith, tt)))))))
 
 module _ (map : List ℕ) (h₀ : Hart) (m₀ : List ℕ) where
   abbrev c : Control
@@ -155,7 +140,7 @@ module _ (map : List ℕ) (h₀ : Hart) (m₀ : List ℕ) where
           (placed kind.Pop Double (SSP of h .words) q (S .place)))
       effect-left (Swap rd old q w v next) o ns np = absurd (ns rd old q w v next refl)
       effect-left (effect.Whole k) o ns np = whole-left k o np
-      effect-left (Trap cause tval) o ns np = rw (trap-stays (h .words) cause tval) rests
+      effect-left (Trap cause tval) o ns np = rw (trap-keeps (h .words) cause tval SSP refl refl) rests
 
       -- a step of a stretch
       pub step-left : NoSwap (planOf source h m map) → NoPointerWrite (planOf source h m map)
