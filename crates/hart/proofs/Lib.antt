@@ -3,3 +3,4 @@ pub mod Turns
 pub mod Compose
 pub mod Longer
 pub mod Steps
+pub mod Rows

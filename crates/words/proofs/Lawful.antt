@@ -104,7 +104,7 @@ pub record Placed (n : Csr) : Type 0 where
   pub behind : 3 ≤ slotOf n
   pub small : slotOf n < COUNT
   pub row : (m : ℕ) → holds n m ≡ fits (slotOf n) m
-  pub own : slotOf n ≡ MENVCFG → (a b : Bool) → rowOf n a ≡ rowOf n b
+  pub own : MENVCFG ≡ slotOf n → (a b : Bool) → rowOf n a ≡ rowOf n b
 
 pub placed : (n : Csr) → Placed n
 placed Ssp = record { behind = omega arith; small = omega arith; row = low-row 3 61; own = λ e a b. refl }
