@@ -1,13 +1,12 @@
 -- User mode: what the regime in force is there, and that no completed step changes the mode or a CSR.
 -- Assumes nothing.
 use mathlib.Core.Bool.{Bool, true, false, true≢false}
-use mathlib.Core.List.{List}
+use mathlib.Core.List.{List, [], _∷_}
 use mathlib.Core.Path.{_≡_, refl, sym, ap, _∙_}
 use Prim.Native.Nat.{ℕ, _/_, _^_}
 use lib.ListN.{length, length-set}
 use lib.Seq.{getD-set-other}
 use borrow.Author.Tests.{eq-eqb}
-use Rattle.word.specs.Choice.{Table, _⇒_¦_, otherwise, look}
 use Rattle.isa.specs.declared.CsrOperation.{CsrOperation}
 use Rattle.isa.specs.declared.Kind.{Kind}
 use Rattle.isa.specs.declared.Kind.the-variants.{Fetch, Load, Store, Push, Pop, Swap}
@@ -26,6 +25,7 @@ use Rattle.meaning.specs.declared.Source.{Source}
 use Rattle.regime.specs.Regime.{controlOf}
 use Rattle.words.specs.Words.{_of_, _but_≔_, PC, MODE, ELP, SSP, SATP, MSTATUS, MENVCFG, SENVCFG, MSECCFG}
 use Rattle.words.specs.Setting.{settingOf}
+use Rattle.words.proofs.Stored.{among}
 use Rattle.hart.specs.Step.{csrOf, wholeOf, applyOf, trapsOf, planOf}
 use Rattle.hart.specs.declared.Hart.{Hart}
 use Rattle.origin.specs.Force.{inForce}
@@ -55,12 +55,9 @@ user-mode c Swap u = rw u
 pub user-paged : (c : Control) (k : Kind) → c .mode ≡ User → c .sv39 ≡ true → pagedOf (control.modeOf c k) (c .sv39) ≡ true
 user-paged c k u s = rw (user-mode c k u, s)
 
--- the words that are neither the mode nor a CSR of their own: pc, elp and ssp
-abbrev moving : Table Bool
-moving = PC ⇒ true ¦ ELP ⇒ true ¦ SSP ⇒ true ¦ otherwise false
-
+-- pc, elp and ssp, which are not the mode and no other CSR
 abbrev pub moves : (k : ℕ) → Bool
-moves k = look k moving
+moves k = among k (PC ∷ ELP ∷ SSP ∷ [])
 
 -- v has the mode and the CSRs of w
 pub record Same (w v : List ℕ) : Type 0 where

@@ -42,7 +42,7 @@ use Rattle.words.specs.Legal.{wordsLegal}
 use Rattle.words.specs.Setting.{settingOf}
 use Rattle.effect.specs.Register.{putOf}
 use Rattle.hart.specs.Hart.{hart, legal}
-use Rattle.hart.specs.Step.{csrOf, wholeOf, planOf, stepFrom}
+use Rattle.hart.specs.Step.{Outcome, csrOf, wholeOf, planOf, stepFrom}
 use Rattle.hart.specs.declared.Hart.{Hart}
 use Rattle.call.specs.Call.{refusalOf}
 use Rattle.origin.specs.Force.{inForce}
@@ -84,6 +84,10 @@ changed = storeOf memory₀ 0x1010 8 0x2222
 -- a hart with another word in place of one
 abbrev pub withWord : (k v : ℕ) → Hart → Hart
 withWord k v h = hart (h .x) (h .words but k ≔ v)
+
+-- what a step leaves that goes on to the next word
+abbrev pub left : Hart → (m : List ℕ) → Outcome
+left h m = record { hart = withWord PC 4 h; memory = m; trapped = false; cause = 0 }
 
 -- a stretch of one step that changed them and pushed nothing
 abbrev pub Changes : (map : List ℕ) → Hart → Type 0
@@ -154,10 +158,10 @@ record Computed : Type 0 where
   swapping-accepted : Accepted map₀ swapping
   swapping-shadow : Shadow (inForce swapping) map₀ 0x1010
   swapping-swaps : planOf (Given ssamoswap) swapping memory₀ map₀ ≡ Swap 0 0x1111 there Double 0x2222 4
-  swapping-leaves : stepFrom (Given ssamoswap) swapping memory₀ map₀ ≡ record { hart = withWord PC 4 swapping; memory = changed; trapped = false; cause = 0 }
+  swapping-leaves : stepFrom (Given ssamoswap) swapping memory₀ map₀ ≡ left swapping changed
   pointing-accepted : Accepted map₀ pointing
   pointing-writes : planOf (Given csrrw) pointing memory₀ map₀ ≡ Whole (Csr operation.Write Ssp true 0x1020 0 4)
-  pointing-leaves : stepFrom (Given csrrw) pointing memory₀ map₀ ≡ record { hart = withWord PC 4 (withWord SSP 0x1020 pointing); memory = memory₀; trapped = false; cause = 0 }
+  pointing-leaves : stepFrom (Given csrrw) pointing memory₀ map₀ ≡ left (withWord SSP 0x1020 pointing) memory₀
   disabled-accepted : Accepted map₀ disabled
   disabled-checks : PopCheck (Given sspopchk) disabled memory₀ map₀ 0x2222
   disabled-permitted : Permitted disabled memory₀ map₀ there
@@ -219,7 +223,8 @@ needs-sv39 = (
 
 -- "in user mode"
 pub needs-user :
-    Accepted map₀ inMachine × Sv39 inMachine × Menvcfg inMachine × Senvcfg inMachine × Once map₀ inMachine × Changes map₀ inMachine × Breaks map₀ inMachine
+    Accepted map₀ inMachine × Sv39 inMachine × Menvcfg inMachine × Senvcfg inMachine × Once map₀ inMachine
+    × Changes map₀ inMachine × Breaks map₀ inMachine
 needs-user = (
   computed .inMachine-accepted,
   refl,
@@ -235,7 +240,7 @@ pub needs-no-swap :
     Starts map₀ swapping memory₀
     × NoPointerWrite (planOf (Given ssamoswap) swapping memory₀ map₀)
     × (planOf (Given ssamoswap) swapping memory₀ map₀ ≡ Swap 0 0x1111 there Double 0x2222 4)
-    × (stepFrom (Given ssamoswap) swapping memory₀ map₀ ≡ record { hart = withWord PC 4 swapping; memory = changed; trapped = false; cause = 0 })
+    × (stepFrom (Given ssamoswap) swapping memory₀ map₀ ≡ left swapping changed)
     × Breaks map₀ swapping
 needs-no-swap = (
   together map₀ swapping (computed .swapping-accepted) refl refl refl refl (once₀ (inForce swapping)),
@@ -250,7 +255,7 @@ pub needs-no-pointer-write :
     Starts map₀ pointing memory₀
     × NoSwap (planOf (Given csrrw) pointing memory₀ map₀)
     × (planOf (Given csrrw) pointing memory₀ map₀ ≡ Whole (Csr operation.Write Ssp true 0x1020 0 4))
-    × (stepFrom (Given csrrw) pointing memory₀ map₀ ≡ record { hart = withWord PC 4 (withWord SSP 0x1020 pointing); memory = memory₀; trapped = false; cause = 0 })
+    × (stepFrom (Given csrrw) pointing memory₀ map₀ ≡ left (withWord SSP 0x1020 pointing) memory₀)
     × (Promise map₀ pointing memory₀ (quiet ∷ []) (withWord PC 4 (withWord SSP 0x1020 pointing)) memory₀ false → ⊥)
 unfolding pushes pops
 needs-no-pointer-write = (
@@ -275,5 +280,6 @@ needs-senvcfg = (
   once₀ (inForce disabled),
   start,
   (λ p.
-      false≢true (sym (computed .disabled-goes-on) ∙ p .checks refl (Given sspopchk) 0x2222 there (computed .disabled-checks) (computed .disabled-permitted) .1 (λ e. absurd (omega (arith, e))))),
+      let traps = p .checks refl (Given sspopchk) 0x2222 there (computed .disabled-checks) (computed .disabled-permitted) .1 in
+      false≢true (sym (computed .disabled-goes-on) ∙ traps (λ e. absurd (omega (arith, e))))),
 )
