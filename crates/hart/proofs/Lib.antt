@@ -2,3 +2,4 @@ pub mod Start
 pub mod Turns
 pub mod Compose
 pub mod Longer
+pub mod Steps
