@@ -1,53 +1,65 @@
--- pc kept aside, as the fast way does: the hart at pc of these words, whose own word of it is old.
+-- pc kept aside: the effect of the step at pc, and what is stored beside it.
 -- Assumes nothing.
-use mathlib.Core.Bool.{Bool, true, false}
 use mathlib.Core.List.{List}
-use mathlib.Core.Path.{_≡_, refl, ap, _∙_}
+use mathlib.Core.Path.{_≡_, refl, sym, ap, _∙_}
+use mathlib.Core.Bool.{Bool, true, false}
 use Prim.Native.Nat.{ℕ, _≤_}
 use native.Mathlib.Omega.{arith}
-use lib.ListN.{length}
-use lib.Seq.{getD-set-same, getD-set-other, set-set, set-comm}
+use lib.ListN.{length, length-set}
+use lib.Seq.{getD-set-same, getD-set-other, set-getD, set-set, set-comm}
+use Rattle.word.specs.Choice.{pick}
 use Rattle.csr.specs.declared.Csr.{Csr}
-use Rattle.effect.specs.Register.{putOf}
-use Rattle.effect.specs.declared.Effect.the-variants.{Write, Jump, Push, Pop}
 use Rattle.meaning.specs.Plan.{effectOf}
 use Rattle.meaning.specs.declared.Source.{Source}
-use Rattle.place.specs.declared.Physical.{Physical}
-use Rattle.words.specs.Words.{_of_, _but_≔_, expected, flagOf, slotOf, PC, ELP, SSP, MENVCFG, COUNT}
-use Rattle.words.specs.Access.{shownOf}
+use Rattle.words.specs.Words.{_of_, _but_≔_, expected, slotOf, PC, ELP, SSP, MENVCFG, COUNT}
+use Rattle.words.specs.Access.{shownOf, writtenOf, csrWriteOf}
 use Rattle.words.specs.Setting.{settingOf}
 use Rattle.words.proofs.Lawful.{placed}
 use Rattle.words.proofs.Stored.{setting-kept}
-use Rattle.hart.specs.Hart.{hart}
-use Rattle.hart.specs.Step.{applyOf, planOf}
-use Rattle.hart.specs.declared.Hart.{Hart}
-
-abbrev pub hartAt : (pc : ℕ) → (x w : List ℕ) → Hart
-hartAt pc x w = hart x (w but PC ≔ pc)
+use Rattle.hart.specs.Step.{planOf}
+use Rattle.engine.specs.Glide.{hartAt, Straight}
 
 module _ (pc : ℕ) (x w : List ℕ) where
-  -- the effect of its step
+  -- the effect of the step at pc
   pub planned-at : length w ≡ COUNT → (source : Source) (m map : List ℕ)
       → planOf source (hartAt pc x w) m map ≡ effectOf source x pc (expected w) (SSP of w) (settingOf w) m map
   planned-at size source m map =
-      rw (getD-set-same w PC pc 0 (rw size (omega arith)), getD-set-other w PC ELP pc 0 (omega arith), getD-set-other w PC SSP pc 0 (omega arith), setting-kept PC pc w refl)
+      rw (
+        getD-set-same w PC pc 0 (rw size (omega arith)),
+        getD-set-other w PC ELP pc 0 (omega arith),
+        getD-set-other w PC SSP pc 0 (omega arith),
+        setting-kept PC pc w refl,
+      )
 
-  -- and the hart after it
-  pub wrote : (rd v next : ℕ) → applyOf (Write rd v next) (hartAt pc x w) ≡ hartAt next (putOf rd v x) w
-  wrote rd v next = ap (hart (putOf rd v x)) (set-set w PC pc next)
-
+  -- another pc, and another word
   pub moved : (k v next : ℕ) → (PC ≡ k → ⊥) → (w but PC ≔ pc but PC ≔ next but k ≔ v) ≡ (w but k ≔ v but PC ≔ next)
   moved k v next n = ap (λ (l : List ℕ). l but k ≔ v) (set-set w PC pc next) ∙ set-comm w PC k next v n
 
-  pub jumped : (rd link next : ℕ) (elp : Bool) → applyOf (Jump rd link next elp) (hartAt pc x w) ≡ hartAt next (putOf rd link x) (w but ELP ≔ flagOf elp)
-  jumped rd link next elp = ap (hart (putOf rd link x)) (moved ELP (flagOf elp) next (omega arith))
+  -- elp stays 0
+  pub still : (next : ℕ) → Straight w → (w but PC ≔ pc but PC ≔ next but ELP ≔ 0) ≡ (w but PC ≔ next)
+  still next st = moved ELP 0 next (omega arith) ∙ ap (λ (l : List ℕ). l but PC ≔ next) (ap (λ (v : ℕ). w but ELP ≔ v) (sym (st .1)) ∙ set-getD w ELP 0)
 
-  pub pushed : (q : Physical) (v ssp next : ℕ) → applyOf (Push q v ssp next) (hartAt pc x w) ≡ hartAt next x (w but SSP ≔ ssp)
-  pushed q v ssp next = ap (hart x) (moved SSP ssp next (omega arith))
+  -- a CSR's word does not depend on pc: what it shows, what a write leaves, and where that is stored
+  module _ (n : Csr) where
+    behind : 3 ≤ slotOf n
+    behind = placed n .behind
 
-  -- what a CSR shows
-  pub shown-at : (n : Csr) → shownOf n (w but PC ≔ pc) ≡ shownOf n w
-  unfolding shownOf
-  shown-at n =
-      let b : 3 ≤ slotOf n = placed n .behind in
-      rw (getD-set-other w PC MENVCFG pc 0 (omega arith), getD-set-other w PC (slotOf n) pc 0 (omega (arith, b)))
+    pub shown-at : shownOf n (w but PC ≔ pc) ≡ shownOf n w
+    unfolding shownOf
+    shown-at = rw (getD-set-other w PC MENVCFG pc 0 (omega arith), getD-set-other w PC (slotOf n) pc 0 (omega (arith, behind)))
+
+    written-at : (v : ℕ) → writtenOf n v (w but PC ≔ pc) ≡ writtenOf n v w
+    unfolding writtenOf
+    written-at v = rw (getD-set-other w PC MENVCFG pc 0 (omega arith), getD-set-other w PC (slotOf n) pc 0 (omega (arith, behind)))
+
+    pub csr-at : (writes : Bool) (v next : ℕ)
+        → (pick writes (csrWriteOf n v (w but PC ≔ pc)) (w but PC ≔ pc) but PC ≔ next) ≡ (pick writes (csrWriteOf n v w) w but PC ≔ next)
+    csr-at true v next =
+        ap (λ (u : ℕ). w but PC ≔ pc but slotOf n ≔ u but PC ≔ next) (written-at v)
+        ∙ ap (λ (l : List ℕ). l but PC ≔ next) (set-comm w PC (slotOf n) pc (writtenOf n v w) (omega (arith, behind)))
+        ∙ set-set (csrWriteOf n v w) PC pc next
+    csr-at false v next = set-set w PC pc next
+
+-- no landing pad is expected after a store of any other word
+pub still-straight : (w : List ℕ) → Straight w → (k v : ℕ) → 3 ≤ k → Straight (w but k ≔ v)
+still-straight w st k v le = (rw length-set (st .0), rw (getD-set-other w k ELP v 0 (omega (arith, le))) (st .1))

@@ -4,7 +4,7 @@ use address::control;
 use meaning::Source;
 use place::window;
 use place::window::Window;
-use quick::Tried;
+use moves::Tried;
 use quick::opcodes;
 use regime::Setting;
 use word::sum;
@@ -15,13 +15,14 @@ use words::sized;
 ghost use mathlib.Core.Bool.{false};
 ghost use mathlib.Core.Path.{_≡_};
 ghost use Prim.Native.Nat.{_^_, _≤_};
-ghost use lib.Dec.{eqb};
 ghost use lib.ListN.{length};
 ghost use Rattle.address.specs.Control.{flatOf};
 ghost use Rattle.place.specs.Window.{Shows};
 ghost use Rattle.meaning.specs.declared.Source.the-variants.{Fetch};
-ghost use Rattle.hart.specs.Glide.{saidOf, Straight, Fetches, Turned, Glides};
-ghost use Rattle.hart.specs.Words.{AreWords};
+ghost use Rattle.words.specs.Setting.{settingOf};
+ghost use Rattle.hart.specs.Hart.{hart};
+ghost use Rattle.hart.specs.Run.{runFrom, Midway};
+ghost use Rattle.engine.specs.Glide.{Straight, Fetches, Turned, Glides};
 
 // pc after the steps taken, and what is left of the budget.
 pub struct Glided {
@@ -40,7 +41,7 @@ fn instruction(
     mem: &mut [u8],
     map: &[u64],
 ) -> Tried
-    requires { ⌜ (length (now mem) ≤ 2 ^ 20) × Straight (now w) × (s ≡ saidOf (now w)) × (flat ≡ flatOf (s .control)) × Fetches word pc (now w) (now mem) (now map) ⌝ }
+    requires { ⌜ (length (now mem) ≤ 2 ^ 20) × Straight (now w) × (s ≡ settingOf (now w)) × (flat ≡ flatOf (s .control)) × Fetches word pc (now w) (now mem) (now map) ⌝ }
     ensures { λ r. ⌜ Turned (r .done) pc (now (x .entry)) (now (w .entry)) (now (mem .entry)) (now (map .entry)) (r .pc) (now (x .exit)) (now (w .exit)) (now (mem .exit)) ⌝ }
 {
     let t = opcodes::word(word, x, w, pc, flat, s, mem, map);
@@ -67,7 +68,7 @@ fn turn(
     mem: &mut [u8],
     map: &[u64],
 ) -> Tried
-    requires { ⌜ (length (now mem) ≤ 2 ^ 20) × Straight (now w) × (s ≡ saidOf (now w)) × (flat ≡ flatOf (s .control)) × Shows v (s .control) (now map) (length (now mem)) ⌝ }
+    requires { ⌜ (length (now mem) ≤ 2 ^ 20) × Straight (now w) × (s ≡ settingOf (now w)) × (flat ≡ flatOf (s .control)) × Shows v (s .control) (now map) (length (now mem)) ⌝ }
     ensures { λ r. ⌜ Turned (r .done) pc (now (x .entry)) (now (w .entry)) (now (mem .entry)) (now (map .entry)) (r .pc) (now (x .exit)) (now (w .exit)) (now (mem .exit)) ⌝ }
 {
     let f = opcodes::fetch(v, pc, mem);
@@ -89,9 +90,9 @@ fn stretch(
     map: &[u64],
     budget: u64,
 ) -> Glided
-    requires { ⌜ (length (now mem) ≤ 2 ^ 20) × Straight (now w) × (s ≡ saidOf (now w)) × (flat ≡ flatOf (s .control)) × Shows v (s .control) (now map) (length (now mem)) ⌝ }
-    ensures steps { λ r. ⌜ Glides Fetch budget start (now (x .entry)) (now (w .entry)) (now (mem .entry)) (now (map .entry)) r (now (x .exit)) (now (w .exit)) (now (mem .exit)) ⌝ }
-    ensures words { λ _. ⌜ Straight (now (w .exit)) × (s ≡ saidOf (now (w .exit))) ⌝ }
+    requires { ⌜ (length (now mem) ≤ 2 ^ 20) × Straight (now w) × (s ≡ settingOf (now w)) × (flat ≡ flatOf (s .control)) × Shows v (s .control) (now map) (length (now mem)) ⌝ }
+    ensures steps { λ r. ⌜ Glides budget start (now (x .entry)) (now (w .entry)) (now (mem .entry)) (now (map .entry)) r (now (x .exit)) (now (w .exit)) (now (mem .exit)) ⌝ }
+    ensures words { λ _. ⌜ Straight (now (w .exit)) × (s ≡ settingOf (now (w .exit))) ⌝ }
 {
     let mut pc = start;
     let mut left = budget;
@@ -117,9 +118,9 @@ fn steps(
     map: &[u64],
     budget: u64,
 ) -> Glided
-    requires { ⌜ (length (now mem) ≤ 2 ^ 20) × Straight (now w) × (s ≡ saidOf (now w)) ⌝ }
-    ensures steps { λ r. ⌜ Glides Fetch budget start (now (x .entry)) (now (w .entry)) (now (mem .entry)) (now (map .entry)) r (now (x .exit)) (now (w .exit)) (now (mem .exit)) ⌝ }
-    ensures words { λ _. ⌜ Straight (now (w .exit)) × (s ≡ saidOf (now (w .exit))) ⌝ }
+    requires { ⌜ (length (now mem) ≤ 2 ^ 20) × Straight (now w) × (s ≡ settingOf (now w)) ⌝ }
+    ensures steps { λ r. ⌜ Glides budget start (now (x .entry)) (now (w .entry)) (now (mem .entry)) (now (map .entry)) r (now (x .exit)) (now (w .exit)) (now (mem .exit)) ⌝ }
+    ensures words { λ _. ⌜ Straight (now (w .exit)) × (s ≡ settingOf (now (w .exit))) ⌝ }
 {
     let flat = control::flat(s.control);
     let mut pc = start;
@@ -168,7 +169,8 @@ pub fn glide(
     if waits(source, w[ELP]) {
         return budget;
     }
-    let g = steps(x, w, w[PC], s, mem, map, budget);
+    let pc = w[PC];
+    let g = steps(x, w, pc, s, mem, map, budget);
     w[PC] = g.pc;
     g.left
 }

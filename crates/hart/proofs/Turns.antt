@@ -2,7 +2,7 @@
 -- Assumes nothing.
 use mathlib.Core.Bool.{Bool, true, false}
 use mathlib.Core.List.{List}
-use mathlib.Core.Path.{_≡_, refl, ap, _∙_}
+use mathlib.Core.Path.{_≡_, refl, sym, ap, _∙_}
 use Prim.Native.Nat.{ℕ, suc, _+_, _-_, _<_, _≤_}
 use native.Mathlib.Nat.{add-assoc}
 use native.Mathlib.Omega.{arith}
@@ -54,6 +54,16 @@ module _ (whole : Run) (budget left : ℕ) (source : Source) (g : Hart) (m map :
       let s : left ≡ suc (left - 1) = omega arith in
       let k : budget - left + 1 ≡ budget - (left - 1) = omega arith in
       now .1 ∙ ap (λ (n : ℕ). after (budget - left) (runFrom source n g m map)) s ∙ last-turn source (budget - left) (left - 1) g m map q ∙ rw k
+
+  -- the same, of what the code has after a step: registers, words, memory, and what the step tells
+  module _ (some : 0 < left) (x w n : List ℕ) (trapped : Bool) (cause : ℕ)
+      (ex : x ≡ stepFrom source g m map .hart .x) (ew : w ≡ stepFrom source g m map .hart .words) (en : n ≡ stepFrom source g m map .memory)
+      (et : trapped ≡ stepFrom source g m map .trapped) (ec : cause ≡ stepFrom source g m map .cause) where
+    pub goes-on : trapped ≡ false → Midway whole budget (left - 1) Fetch (hart x w) n map
+    goes-on q = rw (same-hart _ x w ex ew, en) (again some (sym et ∙ q))
+
+    pub ends : trapped ≡ true → whole ≡ record { hart = hart x w; memory = n; count = budget - (left - 1); trapped = true; cause = cause }
+    ends q = rw (same-hart _ x w ex ew, en, ec) (ended some (sym et ∙ q))
 
   -- the budget is spent
   pub spent : left ≤ 0 → whole ≡ record { hart = g; memory = m; count = budget; trapped = false; cause = 0 }

@@ -1,0 +1,79 @@
+-- `glide::steps` meets its contract: what is left after each window, run, gives the whole. Assumes nothing.
+use mathlib.Core.Path.{_≡_, refl, _∙_}
+use lib.ListN.{length}
+use Rattle.meaning.specs.declared.Source.the-variants.{Fetch}
+use Rattle.words.specs.Setting.{settingOf}
+use Rattle.engine.specs.Glide.{hartAt, Straight}
+use Rattle.hart.specs.Run.{runFrom, Midway}
+use Rattle.hart.proofs.Turns.{start, joined}
+use borrow.Author.Needs.{needs}
+use Rattle.engine.proofs.glide.steps.Statement.{statement}
+use Rattle.engine.proofs.glide.steps.Tie as tie
+
+-- memory keeps its length, no landing pad is expected, the setting is that of the words, and what is left, run, gives the whole
+abbrev Inv-loop : tie.InvT-loop
+Inv-loop x₀ w₀ first s mem₀ map budget flat pc₀ left₀ x w mem pc left =
+    (length mem ≡ length mem₀) × Straight w × (s ≡ settingOf w)
+    × Midway (runFrom Fetch budget (hartAt pc₀ x₀ w₀) mem₀ map) budget left Fetch (hartAt pc x w) mem map
+
+abbrev μ-loop : tie.MeasureT-loop
+μ-loop x₀ w₀ first s mem₀ map budget flat pc₀ left₀ x w mem pc left = left
+
+loop-holds : tie.Need-loop-holds Inv-loop μ-loop
+loop-holds c = let s = c .before .before .before in (refl, s .pre .1, s .pre .2, start _ _ _ _ _)
+
+around-requires : tie.Need-around-requires Inv-loop μ-loop
+around-requires c κs = let l = c .before in rw (l .loop .inv .0) (l .before .before .before .before .pre .0)
+
+stretch-requires : tie.Need-stretch-requires Inv-loop μ-loop
+stretch-requires c κs =
+    let a = c .before .before .before in
+    let l = a .before .before in
+    (rw (l .loop .inv .0) (l .before .before .before .before .pre .0), l .loop .inv .1, l .loop .inv .2, l .before .flat .ensures, a .around .ensures)
+
+-- what a window's steps leave: memory's length, and what is left of the whole
+module _ (c : tie.After-stretch Inv-loop μ-loop) where
+  abbrev stands : tie.At-loop Inv-loop μ-loop
+  stands = c .before .before .before .before .before .before
+
+  len : length (c .stretch .last .1 .1 .1 .1 .1 .1 .0) ≡ length (stands .before .before .before .before .args .mem .now)
+  len = c .stretch .kept .1 .1 .1 .1 .1 .1 .0 ∙ stands .loop .inv .0
+
+  midway : Midway (runFrom Fetch (stands .before .before .before .before .args .budget) (hartAt (stands .before .before .before .before .args .start) (stands .before .before .before .before .args .x .now) (stands .before .before .before .before .args .w .now)) (stands .before .before .before .before .args .mem .now) (stands .before .before .before .before .args .map .now))
+      (stands .before .before .before .before .args .budget) (c .stretch .result .left) Fetch
+      (hartAt (c .stretch .result .pc) (c .stretch .last .0) (c .stretch .last .1 .0)) (c .stretch .last .1 .1 .1 .1 .1 .1 .0) (stands .before .before .before .before .args .map .now)
+  midway =
+      let l = stands .loop in
+      joined _ _ (l .left) _ Fetch (hartAt (l .pc) (l .x) (l .w)) (hartAt (c .stretch .result .pc) (c .stretch .last .0) (c .stretch .last .1 .0)) (l .mem) (c .stretch .last .1 .1 .1 .1 .1 .1 .0) _ (l .inv .3) (c .stretch .ensures .0)
+
+returns : tie.Need-returns Inv-loop μ-loop
+returns c = let s = c .before .before .before .before .before .before in (midway s, s .stretch .ensures .1)
+
+loop-again : tie.Need-loop-again Inv-loop μ-loop
+loop-again c = let s = c .before .before .before .before .before .before in (len s, s .stretch .ensures .1 .0, s .stretch .ensures .1 .1, midway s)
+
+returns-2 : tie.Need-returns-2 Inv-loop μ-loop
+returns-2 c = let s = c .before .before .before .before in (midway s, s .stretch .ensures .1)
+
+returns-3 : tie.Need-returns-3 Inv-loop μ-loop
+returns-3 c = let l = c .before .loop in (l .inv .3, (l .inv .1, l .inv .2))
+
+pub steps-spec : {M : Type 1} → statement M
+steps-spec =
+    tie.close
+    (tie.spec
+    Inv-loop
+    μ-loop
+    (λ c κs. search needs)
+    loop-holds
+    around-requires
+    stretch-requires
+    (λ c κs. search needs)
+    (λ c. len (c .before .before .before .before .before .before))
+    returns
+    (λ c. search needs)
+    loop-again
+    (λ c. len (c .before .before .before .before))
+    returns-2
+    (λ c. c .before .loop .inv .0)
+    returns-3)
