@@ -12,11 +12,15 @@ use address::mask;
 use hart::Hart;
 use lines::line::MOST;
 use lines::row;
+use regime::Setting;
 use regime::access;
-use rights::enable;
 use rights::reach::Reached;
 use rules::places;
 use status::mode;
+use words::MENVCFG;
+use words::MODE;
+use words::SENVCFG;
+use words::setting;
 
 // How many numbers are given: the operation, its two arguments and a hart.
 const GIVEN: usize = 55;
@@ -51,8 +55,8 @@ fn verdict(legal: bool, hart: Hart) -> Came {
 }
 
 fn reached(h: Hart, address: u64) -> Reached {
-    let c = h.csrs;
-    access::reached(h.mode, c.menvcfg, c.senvcfg, (address % 0x1000) as u16)
+    let w = h.words;
+    access::reached(w[MODE], w[MENVCFG], w[SENVCFG], (address % 0x1000) as u16)
 }
 
 fn read(h: Hart, address: u64) -> Came {
@@ -71,19 +75,9 @@ fn write(h: Hart, address: u64, v: u64) -> Came {
     }
 }
 
-fn shadow(h: Hart) -> Came {
-    let c = h.csrs;
-    switch(regime::shadow(h.mode, c.menvcfg, c.senvcfg), h)
-}
-
-fn swap(h: Hart) -> Came {
-    let c = h.csrs;
-    verdict(enable::permits(mode::mode(h.mode), c.menvcfg, c.senvcfg), h)
-}
-
-fn pad(h: Hart) -> Came {
-    let c = h.csrs;
-    switch(regime::pad(h.mode, c.menvcfg, c.senvcfg, c.mseccfg), h)
+fn says(h: Hart) -> Setting {
+    let w = h.words;
+    setting::setting(&w)
 }
 
 fn counted(b: bool, n: u64) -> u64
@@ -95,8 +89,7 @@ fn counted(b: bool, n: u64) -> u64
 // The regime of an access of a kind: the effective mode, and 4 where Sv39 is in force, 8 for SUM, 16 for MXR, 32
 // for menvcfg.SSE, and 64 times the masked bits.
 fn regime(h: Hart, kind: u64) -> Came {
-    let c = h.csrs;
-    let g = regime::control(h.mode, c.mstatus, c.satp, c.menvcfg, c.senvcfg, c.mseccfg);
+    let g = says(h).control;
     let m = control::effective(g, places::kind(kind));
     let low = mode::number(m) + counted(control::paged(g, m), 4);
     let bits = counted(g.sum, 8) + counted(g.mxr, 16) + counted(g.sse, 32);
@@ -111,9 +104,9 @@ fn done(operation: u64, first: u64, second: u64, h: Hart) -> Came {
         3 => value(0, h.trap(first, second)),
         4 => value(0, h.mret()),
         5 => value(0, h.sret()),
-        6 => shadow(h),
-        7 => swap(h),
-        8 => pad(h),
+        6 => switch(says(h).shadow, h),
+        7 => verdict(says(h).permitted, h),
+        8 => switch(says(h).pad, h),
         _ => regime(h, first),
     }
 }
@@ -128,10 +121,10 @@ fn most(operation: u64) -> u64 {
     }
 }
 
-// Whether the operation is one, its first argument one that it can have, and ELP a bit.
+// Whether the operation is one, and its first argument one that it can have.
 fn known(n: &[u64]) -> bool {
     let operation = row::at(n, 0);
-    operation <= 9 && row::at(n, 1) <= most(operation) && row::at(n, 37) <= 1
+    operation <= 9 && row::at(n, 1) <= most(operation)
 }
 
 // Puts what came into a row, to be held against the wanted numbers.

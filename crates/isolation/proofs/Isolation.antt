@@ -4,6 +4,7 @@ use mathlib.Core.List.{List}
 use mathlib.Core.Path.{_≡_, refl}
 use Prim.Native.Nat.{ℕ, _/_, _^_}
 use Rattle.address.specs.declared.control.Control.{Control}
+use Rattle.words.specs.Words.{_of_, MODE, SATP}
 use Rattle.hart.specs.declared.Hart.{Hart}
 use Rattle.origin.specs.Force.{inForce, leafAt}
 use Rattle.origin.proofs.Users.{in-user, sv39-on}
@@ -49,7 +50,7 @@ isolation = (by-step-5, by-bits)
 
 -- and more than was asked: what no valid entry with its U bit and W names keeps its bytes too, so a frame that may only be read does.
 -- (With A11 this is "written by neither", of table frames that no such leaf names.)
-pub read-only-kept : (map : List ℕ) (h : Hart) (m : List ℕ) → h .mode ≡ 0 → h .csrs .satp / 2 ^ 60 ≡ 8 → (calls : List Call)
+pub read-only-kept : (map : List ℕ) (h : Hart) (m : List ℕ) → MODE of h .words ≡ 0 → SATP of h .words / 2 ^ 60 ≡ 8 → (calls : List Call)
     → Keeps (Seen Writable (inForce h) map) m (sessionOf calls h m map .memory)
 read-only-kept map h m u s calls =
     both-rows Taken (λ c e t. t) map h m m

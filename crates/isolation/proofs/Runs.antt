@@ -11,10 +11,9 @@ use Rattle.meaning.specs.declared.Source.{Source}
 use Rattle.meaning.specs.declared.Source.the-variants.{Fetch, Given}
 use Rattle.transfer.specs.Commit.{memoryOf}
 use Rattle.hart.specs.Run as run
-use Rattle.hart.specs.Run.{Run, once, runFrom, ranOf}
+use Rattle.hart.specs.Run.{Run, once, runFrom}
 use Rattle.hart.specs.Step.{applyOf, trapsOf, outcomeOf, planOf, stepFrom}
 use Rattle.hart.specs.declared.Hart.{Hart}
-use Rattle.hart.specs.declared.run.Ran.{Ran}
 use Rattle.call.specs.Call.{Called, refusalOf, runRefusalOf, refusedWith, takenWith, stepFromCall, runCall}
 use Rattle.call.specs.declared.Answer.{Answer}
 use Rattle.isolation.specs.Unseen.{Alike, Keeps, Call, step, stepWord, callOf, Session, followed, sessionOf}
@@ -25,7 +24,7 @@ use Rattle.isolation.proofs.Steps.{Confined, Left, step-same, step-left
 module _ (Of To : (o : ℕ) → Type 0) (map : List ℕ) where
   -- two runs, from memories m and n
   pub record Runs (m n : List ℕ) (r s : Run) : Type 0 where
-    pub told : ranOf r ≡ ranOf s
+    pub told : takenWith r .answer ≡ takenWith s .answer
     pub confined : r .trapped ≡ false → Confined Of To map (r .hart)
     pub alike : Alike Of (r .memory) (s .memory)
     pub own : Keeps To m (r .memory)
@@ -40,7 +39,7 @@ module _ (Of To : (o : ℕ) → Type 0) (map : List ℕ) where
   further false e h m n r s t L c f =
       let R = f t in
       record {
-        told = ap (λ (x : Ran). record { hart = x .hart; count = 1 + x .count; trapped = x .trapped; cause = x .cause }) (R .told);
+        told = ap (λ (x : Answer). record { refusal = 0; hart = x .hart; count = 1 + x .count; trapped = x .trapped; cause = x .cause }) (R .told);
         confined = R .confined;
         alike = R .alike;
         own = keeps-on To m (memoryOf e m) (r .memory) (L .own) (R .own);
@@ -69,13 +68,7 @@ module _ (Of To : (o : ℕ) → Type 0) (map : List ℕ) where
 
   module _ (h : Hart) (m n : List ℕ) (C : Confined Of To map h) (A : Alike Of m n) where
     taken : (r s : Run) → Runs m n r s → Calls m n (takenWith r) (takenWith s)
-    taken r s R = record {
-      answer = ap (λ (x : Ran). record { refusal = 0; hart = x .hart; count = x .count; trapped = x .trapped; cause = x .cause }) (R .told);
-      confined = R .confined;
-      alike = R .alike;
-      own = R .own;
-      own′ = R .own′;
-    }
+    taken r s R = record { answer = R .told; confined = R .confined; alike = R .alike; own = R .own; own′ = R .own′ }
 
     called : (t : Bool) (k : ℕ) (r s : Run) → Runs m n r s
         → Calls m n (pick t (takenWith r) (refusedWith k h m)) (pick t (takenWith s) (refusedWith k h n))

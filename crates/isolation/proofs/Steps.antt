@@ -22,7 +22,8 @@ use Rattle.effect.specs.declared.Effect.{Effect}
 use Rattle.effect.specs.declared.Effect.the-variants.{Write, Jump, Pad, Store, Push, Pop, Swap, Trap}
 use Rattle.effect.specs.declared.Effect.the-variants as effect
 use Rattle.meaning.specs.declared.Source.{Source}
-use Rattle.bank.specs.Setting.{settingOf}
+use Rattle.words.specs.Words.{_of_, expected, PC, MODE, SSP}
+use Rattle.words.specs.Setting.{settingOf}
 use Rattle.transfer.specs.Commit.{memoryOf}
 use Rattle.hart.specs.Step.{applyOf, trapsOf, planOf}
 use Rattle.hart.specs.declared.Hart.{Hart}
@@ -37,15 +38,15 @@ use Rattle.isolation.proofs.Effects.{effect-twin}
 module _ (Of To : (o : ℕ) → Type 0) (map : List ℕ) where
   -- a hart in user mode, no access of which reaches a byte but one `Of` these, or writes but `To` those
   pub record Confined (h : Hart) : Type 0 where
-    pub user : h .mode ≡ 0
+    pub user : MODE of h .words ≡ 0
     pub covered : Covers (inForce h) map Of
     pub written : Writes (inForce h) map To
 
   -- one with the same mode and CSRs is confined as well
-  stays : (h g : Hart) → Same h g → Confined h → Confined g
+  stays : (h g : Hart) → Same (h .words) (g .words) → Confined h → Confined g
   stays h g s C =
       let f = same-force h g s in
-      record { user = s .0 ∙ C .user; covered = rw f (C .covered); written = rw f (C .written) }
+      record { user = s .kept MODE refl ∙ C .user; covered = rw f (C .covered); written = rw f (C .written) }
 
   -- what an effect leaves of the two memories
   pub record Left (m n : List ℕ) (e : Effect) : Type 0 where
@@ -91,7 +92,7 @@ module _ (Of To : (o : ℕ) → Type 0) (map : List ℕ) where
 
     -- of a step: one effect in both memories
     pub step-same : planOf source h m map ≡ planOf source h n map
-    step-same = effect-twin Of (settingOf (h .mode) (h .csrs)) map m n A (C .covered) (h .x) (h .pc) (h .elp) (h .ssp) source
+    step-same = effect-twin Of (settingOf (h .words)) map m n A (C .covered) (h .x) (PC of h .words) (expected (h .words)) (SSP of h .words) source
 
     -- what it leaves of them
     pub step-left : Left m n (planOf source h m map)

@@ -25,20 +25,19 @@ use Rattle.crossing.specs.Trap.{enterM}
 use Rattle.transfer.specs.Access.{doneOf, atOf, passedOf, accessOf}
 use Rattle.meaning.specs.Instruction.{executeOf}
 use Rattle.meaning.specs.Plan.{fetchedOf, landedOf, arrivedOf, effectOf}
-use Rattle.bank.specs.Legal.{csrsLegal}
-use Rattle.bank.specs.Setting.{settingOf}
-use Rattle.bank.specs.Setters.{withSatp, withMstatus}
+use Rattle.words.specs.Words.{_of_, MODE, MSTATUS, SATP}
+use Rattle.words.specs.Legal.{wordsLegal}
+use Rattle.words.specs.Setting.{settingOf}
+use Rattle.words.specs.Trap.{trapOf, trapM}
 use Rattle.regime.specs.Regime.{controlOf, shadowOn, padOn}
-use Rattle.hart.specs.Legal.{legal}
-use Rattle.hart.specs.Setters.{withMode, withCsrs}
-use Rattle.hart.specs.Step.{withReg, stepFrom}
-use Rattle.hart.specs.Trap.{trapOf}
+use Rattle.hart.specs.Hart.{hart, legal}
+use Rattle.hart.specs.Step.{stepFrom}
 use Rattle.hart.specs.declared.Hart.{Hart}
 use Rattle.call.specs.Call.{refusalOf, stepFromCall, stepWordCall}
 use Rattle.call.specs.declared.Answer.{Answer}
 use Rattle.origin.specs.Force.{inForce}
 use Rattle.isolation.specs.Unseen.{Taken, Seen, Alike, Call, stepWord, sessionOf, Starts, Unseen}
-use Rattle.isolation.proofs.Witness.{front, memoryWith, map₀, hart₀, alike₀}
+use Rattle.isolation.proofs.Witness.{front, memoryWith, map₀, hart₀, withWord, withReg, alike₀}
 
 -- ld x6, 0(x3), as a row of one call
 abbrev pub look : List Call
@@ -51,10 +50,10 @@ sixth (a ∷ rest) = getD (a .hart .x) 6 0
 
 -- the hypotheses, one by one
 abbrev pub InUser : Hart → Type 0
-InUser h = h .mode ≡ 0
+InUser h = MODE of h .words ≡ 0
 
 abbrev pub Sv39 : Hart → Type 0
-Sv39 h = h .csrs .satp / 2 ^ 60 ≡ 8
+Sv39 h = SATP of h .words / 2 ^ 60 ≡ 8
 
 abbrev pub Agree : Hart → Type 0
 Agree h = Alike (Seen Taken (inForce h) map₀) (memoryWith 0xAA) (memoryWith 0xBB)
@@ -68,11 +67,11 @@ Breaks h = Unseen Taken map₀ h (memoryWith 0xAA) (memoryWith 0xBB) look → �
 
 -- without user mode: in S, with SUM, a page without U is S's
 abbrev pub supervisor : Hart
-supervisor = withMode 1 (withCsrs (withMstatus (0xA00000000 + 2 ^ 18) (hart₀ .csrs)) hart₀)
+supervisor = withWord MODE 1 (withWord MSTATUS (0xA00000000 + 2 ^ 18) hart₀)
 
 -- without Sv39: in Bare there are no pages
 abbrev pub bare : Hart
-bare = withCsrs (withSatp 0 (hart₀ .csrs)) (withReg 3 0x80002000 hart₀)
+bare = withWord SATP 0 (withReg 3 0x80002000 hart₀)
 
 -- past the first trap: ecall, to M
 abbrev pub ecall : ℕ
@@ -82,7 +81,7 @@ abbrev pub aimed : Hart
 aimed = withReg 3 0x80002000 hart₀
 
 abbrev pub trapped : Hart
-trapped = trapOf aimed 8 0
+trapped = hart (aimed .x) (trapOf (aimed .words) 8 0)
 
 -- memories of two lengths, of which no byte differs, and a map that names a frame which only the longer one has: page 0 is frame 0x80001
 -- with V, R, W, U, A and D
@@ -120,7 +119,7 @@ record Computed : Type 0 where
   above-other : sixth (sessionOf look hartAbove (zeroed 4096) mapAbove .answers) ≡ 1
 
 computed : Computed
-unfolding sessionOf stepFromCall refusalOf legal csrsLegal memory.refusedOf page.refusedOf page.pagesOf page.anyLarge page.riseFrom page.strictlyRise stepFrom effectOf fetchedOf arrivedOf landedOf executeOf decodeOf base.loadOf system.systemOf accessOf passedOf atOf doneOf placeOf reachedOf control.modeOf transformedOf maskOf alignedOf pagedPlaceOf plainPlaceOf throughOf page.lookupOf settleOf judgeOf insideOf withinOf settingOf controlOf shadowOn padOn modeOf memoryWith front bytesOf number loadOf storeOf extendOf trapOf enterM
+unfolding sessionOf stepFromCall refusalOf legal wordsLegal memory.refusedOf page.refusedOf page.pagesOf page.anyLarge page.riseFrom page.strictlyRise stepFrom effectOf fetchedOf arrivedOf landedOf executeOf decodeOf base.loadOf system.systemOf accessOf passedOf atOf doneOf placeOf reachedOf control.modeOf transformedOf maskOf alignedOf pagedPlaceOf plainPlaceOf throughOf page.lookupOf settleOf judgeOf insideOf withinOf settingOf controlOf shadowOn padOn modeOf memoryWith front bytesOf number loadOf storeOf extendOf trapOf trapM enterM
 computed = record {
   supervisor-one = refl;
   supervisor-other = refl;

@@ -31,15 +31,15 @@ use Rattle.meaning.specs.Plan.{fetchedOf, landedOf, arrivedOf, effectOf}
 use Rattle.effect.specs.declared.Effect.{Effect}
 use Rattle.effect.specs.declared.Effect.the-variants.{Write, Store, Trap}
 use Rattle.meaning.specs.declared.Source.the-variants.{Fetch, Given}
-use Rattle.bank.specs.Legal.{csrsLegal}
-use Rattle.bank.specs.Setting.{settingOf}
-use Rattle.bank.specs.Setters.{withSatp}
+use Rattle.words.specs.Words.{_but_≔_, PC, MODE, SATP}
+use Rattle.words.specs.Legal.{wordsLegal}
+use Rattle.words.specs.Setting.{settingOf}
+use Rattle.words.specs.Trap.{trapOf}
+use Rattle.effect.specs.Register.{putOf}
 use Rattle.regime.specs.Regime.{controlOf, shadowOn, padOn}
-use Rattle.hart.specs.Legal.{legal}
+use Rattle.hart.specs.Hart.{hart, legal, startOf}
 use Rattle.hart.specs.Run.{Run, after, stayed, once, runFrom, runOf}
-use Rattle.hart.specs.Setters.{withPc, withX, withMode, withCsrs, startOf}
-use Rattle.hart.specs.Step.{withReg, outcomeOf, planOf, stepFrom}
-use Rattle.hart.specs.Trap.{trapOf}
+use Rattle.hart.specs.Step.{outcomeOf, planOf, stepFrom}
 use Rattle.hart.specs.declared.Hart.{Hart}
 use Rattle.call.specs.Call.{refusalOf, runRefusalOf, takenWith, runCall}
 use Rattle.call.specs.declared.Answer.{Answer}
@@ -72,10 +72,14 @@ map₀ = 0 ∷ 0x20000059 ∷ 1 ∷ 0x200004D7 ∷ 2 ∷ 0x200008C7 ∷ 3 ∷ 0x
 
 -- in user mode with Sv39; x2 is page 1, x3 page 2
 abbrev pub hart₀ : Hart
-hart₀ =
-    withMode 0
-    (withX (0 ∷ 0 ∷ 0x1000 ∷ 0x2000 ∷ replicate 28 0)
-    (withCsrs (withSatp (8 * 2 ^ 60) (startOf .csrs)) startOf))
+hart₀ = hart (0 ∷ 0 ∷ 0x1000 ∷ 0x2000 ∷ replicate 28 0) (startOf .words but MODE ≔ 0 but SATP ≔ 8 * 2 ^ 60)
+
+-- a hart with another word in place of one, or another register
+abbrev pub withWord : (k v : ℕ) → Hart → Hart
+withWord k v h = hart (h .x) (h .words but k ≔ v)
+
+abbrev pub withReg : (rd v : ℕ) → Hart → Hart
+withReg rd v h = hart (putOf rd v (h .x)) (h .words)
 
 -- the two memories differ
 pub front-long : length front ≡ 0x2000
@@ -157,13 +161,13 @@ starts-by-bits = record {
 
 -- the harts after the load, the store, and the load that is a page fault
 abbrev pub hart₁ : Hart
-hart₁ = withPc 4 (withReg 5 0x1111 hart₀)
+hart₁ = withWord PC 4 (withReg 5 0x1111 hart₀)
 
 abbrev pub hart₂ : Hart
-hart₂ = withPc 8 hart₁
+hart₂ = withWord PC 8 hart₁
 
 abbrev pub hart₃ : Hart
-hart₃ = trapOf hart₂ 13 0x2000
+hart₃ = hart (hart₂ .x) (trapOf (hart₂ .words) 13 0x2000)
 
 -- memory after the store
 abbrev pub stored : (secret : ℕ) → List ℕ
@@ -181,7 +185,7 @@ pub record Computed : Type 0 where
   pub pointer : planOf (Given 0x0001B303) (withReg 3 0x5000 hart₀) (memoryWith 0xAA) map₀ ≡ Trap 13 0x5000
 
 pub computed : Computed
-unfolding refusalOf legal csrsLegal memory.refusedOf page.refusedOf page.pagesOf page.anyLarge page.riseFrom page.strictlyRise effectOf fetchedOf arrivedOf landedOf executeOf decodeOf base.loadOf base.storeOf accessOf passedOf atOf doneOf placeOf reachedOf control.modeOf transformedOf maskOf alignedOf pagedPlaceOf throughOf page.lookupOf settleOf judgeOf insideOf withinOf settingOf controlOf shadowOn padOn modeOf memoryWith front bytesOf number loadOf storeOf extendOf
+unfolding refusalOf legal wordsLegal memory.refusedOf page.refusedOf page.pagesOf page.anyLarge page.riseFrom page.strictlyRise effectOf fetchedOf arrivedOf landedOf executeOf decodeOf base.loadOf base.storeOf accessOf passedOf atOf doneOf placeOf reachedOf control.modeOf transformedOf maskOf alignedOf pagedPlaceOf throughOf page.lookupOf settleOf judgeOf insideOf withinOf settingOf controlOf shadowOn padOn modeOf memoryWith front bytesOf number loadOf storeOf extendOf
 computed = record { accepted = refl; first = refl; second = refl; third = refl; outside = refl; twice = refl; pointer = refl }
 
 -- k steps in the one memory

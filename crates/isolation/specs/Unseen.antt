@@ -18,6 +18,7 @@ use lib.ListN.{getD, length}
 use Rattle.leaf.specs.Leaf.{leafOf}
 use Rattle.place.specs.Place.{base, frameOf}
 use Rattle.address.specs.declared.control.Control.{Control}
+use Rattle.words.specs.Words.{_of_, MODE, SATP}
 use Rattle.hart.specs.declared.Hart.{Hart}
 use Rattle.call.specs.Call.{Called, stepCall, stepWordCall, runCall}
 use Rattle.call.specs.declared.Answer.{Answer}
@@ -87,8 +88,8 @@ module _ (Valid : Control → (e : ℕ) → Type 0) (map : List ℕ) (h : Hart) 
   -- "from the same user-mode hart with Sv39 on and the same map, with memories .." (with A11: and the table frames are equal; with
   -- A6: and the logs are equal)
   pub record Starts : Type 0 where
-    pub user : h .mode ≡ 0
-    pub sv39 : h .csrs .satp / 2 ^ 60 ≡ 8
+    pub user : MODE of h .words ≡ 0
+    pub sv39 : SATP of h .words / 2 ^ 60 ≡ 8
     pub alike : Alike (Seen Valid (inForce h) map) m n
 
   -- "the harts, counts and trap answers are the same, and every byte of the named frames is the same; the other frames keep their own

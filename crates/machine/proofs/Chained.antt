@@ -14,7 +14,7 @@ use Rattle.word.specs.Choice.{pick}
 use Rattle.word.proofs.Choices.{first, second}
 use Rattle.meaning.specs.declared.Source.{Source}
 use Rattle.meaning.specs.declared.Source.the-variants.{Fetch}
-use Rattle.hart.specs.Legal.{legal}
+use Rattle.hart.specs.Hart.{legal}
 use Rattle.hart.specs.Run.{Run, runFrom, runOf}
 use Rattle.hart.specs.Step.{stepFrom}
 use Rattle.hart.specs.declared.Hart.{Hart}

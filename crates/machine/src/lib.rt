@@ -14,9 +14,8 @@ fn stepped(h: Hart, source: Source, mem: &mut [u8], map: &[u64]) -> Answer
     ensures answer { λ r. ⌜ r ≡ stepFromCall source h (now (mem .entry)) (now (map .entry)) .answer ⌝ }
     ensures memory { λ _. ⌜ now (mem .exit) ≡ stepFromCall source h (now (mem .entry)) (now (map .entry)) .memory ⌝ }
 {
-    let x = h.x;
     let w = h.words;
-    let n = call::refusal(&x, &w, mem, map);
+    let n = call::refusal(&h.x, &w, mem, map);
     if n == 0 {
         let r = h.step(source, mem, map);
         let g = r.hart;
@@ -52,9 +51,8 @@ pub fn run(h: Hart, mem: &mut [u8], map: &[u64], budget: u64) -> Answer
     ensures answer { λ r. ⌜ r ≡ runCall budget h (now (mem .entry)) (now (map .entry)) .answer ⌝ }
     ensures memory { λ _. ⌜ now (mem .exit) ≡ runCall budget h (now (mem .entry)) (now (map .entry)) .memory ⌝ }
 {
-    let x = h.x;
     let w = h.words;
-    let n = call::run_refusal(&x, &w, mem, map, budget);
+    let n = call::run_refusal(&h.x, &w, mem, map, budget);
     if n == 0 {
         let r = run::of_hart(h, Source::Fetch, mem, map, budget);
         let end = r.hart;

@@ -55,7 +55,8 @@ use Rattle.transfer.specs.declared.access.Gate.{Gate}
 use Rattle.transfer.specs.declared.access.Gate.the-variants as gate
 use Rattle.meaning.specs.declared.Fetched.{Fetched}
 use Rattle.meaning.specs.declared.Fetched.the-variants as fetched
-use Rattle.bank.specs.Setting.{settingOf}
+use Rattle.words.specs.Words.{_of_, expected, PC, SSP}
+use Rattle.words.specs.Setting.{settingOf}
 use Rattle.hart.specs.Step.{planOf}
 use Rattle.hart.specs.declared.Hart.{Hart}
 use Rattle.origin.specs.Force.{inForce}
@@ -68,25 +69,25 @@ pub record AccessStep (source : Source) (h : Hart) (m map : List ℕ) (k : Acces
   pub rs1 : ℕ
   pub rs2 : ℕ
   pub off : ℕ
-  pub arrives : fetchedOf source (inForce h) (h .pc) m map ≡ fetched.Word word
-  pub unchecked : (h .elp && settingOf (h .mode) (h .csrs) .pad) ≡ false
+  pub arrives : fetchedOf source (inForce h) (PC of h .words) m map ≡ fetched.Word word
+  pub unchecked : (expected (h .words) && settingOf (h .words) .pad) ≡ false
   pub reads : decodeOf word ≡ Memory k rd rs1 rs2 off
-  pub opened : gateOf k (settingOf (h .mode) (h .csrs) .shadow) (settingOf (h .mode) (h .csrs) .permitted) ≡ gate.Open
-  pub place : placeOf (inForce h) (kindOf k) (widthOf k) (addressOf k (sumOf (regOf (h .x) rs1) off) (h .ssp)) map (length m) ≡ At q
+  pub opened : gateOf k (settingOf (h .words) .shadow) (settingOf (h .words) .permitted) ≡ gate.Open
+  pub place : placeOf (inForce h) (kindOf k) (widthOf k) (addressOf k (sumOf (regOf (h .x) rs1) off) (SSP of h .words)) map (length m) ≡ At q
 
 -- a CSR instruction that names the CSR n, and whether it writes
 pub record CsrStep (source : Source) (h : Hart) (m map : List ℕ) (o : CsrOperation) (n : csr.Csr) (writes : Bool) (rd : ℕ) : Type 0 where
   pub word : ℕ
   pub from : CsrSource
   pub address : ℕ
-  pub arrives : fetchedOf source (inForce h) (h .pc) m map ≡ fetched.Word word
+  pub arrives : fetchedOf source (inForce h) (PC of h .words) m map ≡ fetched.Word word
   pub reads : decodeOf word ≡ Csr o from rd address
-  pub names : reachOf (inForce h .mode) (settingOf (h .mode) (h .csrs) .permitted) address ≡ reached.To n
+  pub names : reachOf (inForce h .mode) (settingOf (h .words) .permitted) address ≡ reached.To n
   pub wrote : writes ≡ writesOf o (fieldOf from)
 
 module _ (source : Source) (h : Hart) (m map : List ℕ) where
   abbrev s : Setting
-  s = settingOf (h .mode) (h .csrs)
+  s = settingOf (h .words)
 
   -- where each effect comes from
   abbrev pub WholeOrigin : Whole → Type 0
@@ -99,9 +100,9 @@ module _ (source : Source) (h : Hart) (m map : List ℕ) where
   Origin (Jump rd link next elp) = Unit {0}
   Origin (Pad next) = Unit {0}
   Origin (Store q w v next) = AccessStep source h m map (access.Store w) q
-  Origin (Push q v ssp next) = (ssp ≡ pushOf (h .ssp)) × (S : AccessStep source h m map access.Push q) × (v ≡ regOf (h .x) (S .rs2))
+  Origin (Push q v ssp next) = (ssp ≡ pushOf (SSP of h .words)) × (S : AccessStep source h m map access.Push q) × (v ≡ regOf (h .x) (S .rs2))
   Origin (Pop ssp next) =
-      (ssp ≡ sumOf (h .ssp) 8) × (q : Physical) × (S : AccessStep source h m map access.Pop q) × (regOf (h .x) (S .rs1) ≡ readOf m q Double)
+      (ssp ≡ sumOf (SSP of h .words) 8) × (q : Physical) × (S : AccessStep source h m map access.Pop q) × (regOf (h .x) (S .rs1) ≡ readOf m q Double)
   Origin (Swap rd old q w v next) = (aq rl : Bool) × AccessStep source h m map (access.Swap w aq rl) q
   Origin (effect.Whole k) = WholeOrigin k
   Origin (Trap cause tval) = Unit {0}
@@ -133,7 +134,8 @@ module _ (source : Source) (h : Hart) (m map : List ℕ) where
   sret-origin Machine word e = λ u. let z : Machine ≡ User = sym e ∙ u in let y : _≡_ {A = ℕ} 0 1 = cc in omega arith
 
   -- the word of the step, and what is known of it where no landing pad check is made
-  module _ (word : ℕ) (arrives : fetchedOf source (inForce h) (h .pc) m map ≡ fetched.Word word) (unchecked : (h .elp && s .pad) ≡ false) where
+  module _ (word : ℕ) (arrives : fetchedOf source (inForce h) (PC of h .words) m map ≡ fetched.Word word)
+      (unchecked : (expected (h .words) && s .pad) ≡ false) where
     module _ (rd rs1 rs2 off : ℕ) where
       abbrev a : ℕ
       a = regOf (h .x) rs1
@@ -143,7 +145,7 @@ module _ (source : Source) (h : Hart) (m map : List ℕ) where
 
       -- such an instruction, given its place
       given : (k : Access) (q : Physical) → decodeOf word ≡ Memory k rd rs1 rs2 off → gateOf k (s .shadow) (s .permitted) ≡ gate.Open
-          → placeOf (inForce h) (kindOf k) (widthOf k) (addressOf k (sumOf a off) (h .ssp)) map (length m) ≡ At q
+          → placeOf (inForce h) (kindOf k) (widthOf k) (addressOf k (sumOf a off) (SSP of h .words)) map (length m) ≡ At q
           → AccessStep source h m map k q
       given k q reads opened place = record {
         word = word;
@@ -159,13 +161,13 @@ module _ (source : Source) (h : Hart) (m map : List ℕ) where
       }
 
       popped-origin : (q : Physical) (S : AccessStep source h m map access.Pop q) → (t : Bool) → eqb (readOf m q Double) (regOf (h .x) (S .rs1)) ≡ t
-          → Origin (pick t (Pop (sumOf (h .ssp) 8) (nextOf (h .pc))) (Trap 18 3))
+          → Origin (pick t (Pop (sumOf (SSP of h .words) 8) (nextOf (PC of h .words))) (Trap 18 3))
       popped-origin q S true e = (refl, q, S, sym (eqb-true (readOf m q Double) (regOf (h .x) (S .rs1)) e))
       popped-origin q S false e = tt
 
       done-origin : (k : Access) (q : Physical) → decodeOf word ≡ Memory k rd rs1 rs2 off → gateOf k (s .shadow) (s .permitted) ≡ gate.Open
-          → placeOf (inForce h) (kindOf k) (widthOf k) (addressOf k (sumOf a off) (h .ssp)) map (length m) ≡ At q
-          → Origin (doneOf k q rd a b (h .ssp) (nextOf (h .pc)) m)
+          → placeOf (inForce h) (kindOf k) (widthOf k) (addressOf k (sumOf a off) (SSP of h .words)) map (length m) ≡ At q
+          → Origin (doneOf k q rd a b (SSP of h .words) (nextOf (PC of h .words)) m)
       unfolding doneOf poppedOf given
       done-origin (access.Load w sign) q reads opened place = tt
       done-origin (access.Store w) q reads opened place = given (access.Store w) q reads opened place
@@ -175,14 +177,14 @@ module _ (source : Source) (h : Hart) (m map : List ℕ) where
       done-origin (access.Swap w aq rl) q reads opened place = (aq, rl, given (access.Swap w aq rl) q reads opened place)
 
       at-origin : (k : Access) (p : Place) → decodeOf word ≡ Memory k rd rs1 rs2 off → gateOf k (s .shadow) (s .permitted) ≡ gate.Open
-          → placeOf (inForce h) (kindOf k) (widthOf k) (addressOf k (sumOf a off) (h .ssp)) map (length m) ≡ p
-          → Origin (atOf k p rd a b (h .ssp) (nextOf (h .pc)) m)
+          → placeOf (inForce h) (kindOf k) (widthOf k) (addressOf k (sumOf a off) (SSP of h .words)) map (length m) ≡ p
+          → Origin (atOf k p rd a b (SSP of h .words) (nextOf (PC of h .words)) m)
       unfolding atOf
       at-origin k (At q) reads opened place = done-origin k q reads opened place
       at-origin k (Fault cause tval) reads opened place = tt
 
       passed-origin : (k : Access) (g : Gate) → decodeOf word ≡ Memory k rd rs1 rs2 off → gateOf k (s .shadow) (s .permitted) ≡ g
-          → Origin (passedOf g k word rd a b off (h .ssp) (nextOf (h .pc)) s m map)
+          → Origin (passedOf g k word rd a b off (SSP of h .words) (nextOf (PC of h .words)) s m map)
       unfolding passedOf
       passed-origin k gate.Open reads opened = at-origin k _ reads opened refl
       passed-origin k gate.Off reads opened = tt
@@ -197,7 +199,7 @@ module _ (source : Source) (h : Hart) (m map : List ℕ) where
     )
     reached-origin reached.Illegal address o from rd next d e = tt
 
-    execute-origin : (i : Instruction) → decodeOf word ≡ i → Origin (executeOf i word (h .x) (h .pc) (h .ssp) s m map)
+    execute-origin : (i : Instruction) → decodeOf word ≡ i → Origin (executeOf i word (h .x) (PC of h .words) (SSP of h .words) s m map)
     unfolding executeOf accessOf csrOf
     execute-origin Illegal e = tt
     execute-origin (Lui rd v) e = tt
@@ -221,19 +223,19 @@ module _ (source : Source) (h : Hart) (m map : List ℕ) where
     execute-origin (MopR n rd rs1) e = tt
     execute-origin (MopRr n rd rs1 rs2) e = tt
 
-  landed-origin : (w : ℕ) → fetchedOf source (inForce h) (h .pc) m map ≡ fetched.Word w
-      → Origin (landedOf w (h .x) (h .pc) (h .elp) (h .ssp) s m map)
+  landed-origin : (w : ℕ) → fetchedOf source (inForce h) (PC of h .words) m map ≡ fetched.Word w
+      → Origin (landedOf w (h .x) (PC of h .words) (expected (h .words)) (SSP of h .words) s m map)
   unfolding landedOf
-  landed-origin w e = go (h .elp && s .pad) refl
+  landed-origin w e = go (expected (h .words) && s .pad) refl
     where
-      go : (t : Bool) → (h .elp && s .pad) ≡ t
-          → Origin (pick t (pick (isPad w (regOf (h .x) 7)) (Pad (nextOf (h .pc))) (Trap 18 2))
-          (executeOf (decodeOf w) w (h .x) (h .pc) (h .ssp) s m map))
+      go : (t : Bool) → (expected (h .words) && s .pad) ≡ t
+          → Origin (pick t (pick (isPad w (regOf (h .x) 7)) (Pad (nextOf (PC of h .words))) (Trap 18 2))
+          (executeOf (decodeOf w) w (h .x) (PC of h .words) (SSP of h .words) s m map))
       go true p = chosen (isPad w (regOf (h .x) 7)) _ _ tt tt
       go false p = execute-origin w e p (decodeOf w) refl
 
-  arrived-origin : (f : Fetched) → fetchedOf source (inForce h) (h .pc) m map ≡ f
-      → Origin (arrivedOf f (h .x) (h .pc) (h .elp) (h .ssp) s m map)
+  arrived-origin : (f : Fetched) → fetchedOf source (inForce h) (PC of h .words) m map ≡ f
+      → Origin (arrivedOf f (h .x) (PC of h .words) (expected (h .words)) (SSP of h .words) s m map)
   unfolding arrivedOf
   arrived-origin (fetched.Fault cause tval) e = tt
   arrived-origin (fetched.Word w) e = landed-origin w e
@@ -241,4 +243,4 @@ module _ (source : Source) (h : Hart) (m map : List ℕ) where
   -- of a step
   pub origin : Origin (planOf source h m map)
   unfolding effectOf
-  origin = arrived-origin (fetchedOf source (inForce h) (h .pc) m map) refl
+  origin = arrived-origin (fetchedOf source (inForce h) (PC of h .words) m map) refl

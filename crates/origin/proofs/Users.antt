@@ -1,9 +1,11 @@
 -- User mode: what the regime in force is there, and that no completed step changes the mode or a CSR.
 -- Assumes nothing.
 use mathlib.Core.Bool.{Bool, true, false, true≢false}
-use mathlib.Core.List.{List}
-use mathlib.Core.Path.{_≡_, refl, _∙_}
+use mathlib.Core.List.{List, [], _∷_}
+use mathlib.Core.Path.{_≡_, refl, sym, ap, _∙_}
 use Prim.Native.Nat.{ℕ, _/_, _^_}
+use lib.ListN.{length, length-set}
+use lib.Seq.{getD-set-other}
 use borrow.Author.Tests.{eq-eqb}
 use Rattle.isa.specs.declared.CsrOperation.{CsrOperation}
 use Rattle.isa.specs.declared.Kind.{Kind}
@@ -21,22 +23,23 @@ use Rattle.effect.specs.declared.Whole.{Whole}
 use Rattle.effect.specs.declared.Whole.the-variants as whole
 use Rattle.meaning.specs.declared.Source.{Source}
 use Rattle.regime.specs.Regime.{controlOf}
-use Rattle.bank.specs.Setting.{settingOf}
-use Rattle.hart.specs.Access.{csrWriteOf}
-use Rattle.hart.specs.Step.{changedOf, csrOf, wholeOf, applyOf, trapsOf, planOf}
+use Rattle.words.specs.Words.{_of_, _but_≔_, PC, MODE, ELP, SSP, SATP, MSTATUS, MENVCFG, SENVCFG, MSECCFG}
+use Rattle.words.specs.Setting.{settingOf}
+use Rattle.words.proofs.Stored.{among}
+use Rattle.hart.specs.Step.{csrOf, wholeOf, applyOf, trapsOf, planOf}
 use Rattle.hart.specs.declared.Hart.{Hart}
 use Rattle.origin.specs.Force.{inForce}
 use Rattle.origin.proofs.Origins.{Origin, WholeOrigin, origin}
 
 -- the mode of a hart in user mode
-pub in-user : (h : Hart) → h .mode ≡ 0 → inForce h .mode ≡ User
+pub in-user : (h : Hart) → MODE of h .words ≡ 0 → inForce h .mode ≡ User
 unfolding settingOf controlOf modeOf
 in-user h e = rw e
 
 -- satp.MODE 8 is Sv39
-pub sv39-on : (h : Hart) → h .csrs .satp / 2 ^ 60 ≡ 8 → inForce h .sv39 ≡ true
+pub sv39-on : (h : Hart) → SATP of h .words / 2 ^ 60 ≡ 8 → inForce h .sv39 ≡ true
 unfolding settingOf controlOf
-sv39-on h e = eq-eqb (h .csrs .satp / 2 ^ 60) 8 e
+sv39-on h e = eq-eqb (SATP of h .words / 2 ^ 60) 8 e
 
 -- in user mode MPRV changes no access
 pub user-mode : (c : Control) (k : Kind) → c .mode ≡ User → control.modeOf c k ≡ User
@@ -52,41 +55,61 @@ user-mode c Swap u = rw u
 pub user-paged : (c : Control) (k : Kind) → c .mode ≡ User → c .sv39 ≡ true → pagedOf (control.modeOf c k) (c .sv39) ≡ true
 user-paged c k u s = rw (user-mode c k u, s)
 
--- g has h's mode and CSRs
-abbrev pub Same : (h g : Hart) → Type 0
-Same h g = (g .mode ≡ h .mode) × (g .csrs ≡ h .csrs)
+-- pc, elp and ssp, which are not the mode and no other CSR
+abbrev pub moves : (k : ℕ) → Bool
+moves k = among k (PC ∷ ELP ∷ SSP ∷ [])
 
-pub same-on : (f g h : Hart) → Same f g → Same g h → Same f h
-same-on f g h s t = (t .0 ∙ s .0, t .1 ∙ s .1)
+-- v has the mode and the CSRs of w
+pub record Same (w v : List ℕ) : Type 0 where
+  pub long : length v ≡ length w
+  pub kept : (k : ℕ) → moves k ≡ false → k of v ≡ k of w
+
+pub same : (w : List ℕ) → Same w w
+same w = record { long = refl; kept = λ k off. refl }
+
+pub same-on : (u v w : List ℕ) → Same u v → Same v w → Same u w
+same-on u v w s t = record { long = t .long ∙ s .long; kept = λ k off. t .kept k off ∙ s .kept k off }
 
 -- and so its regime
-pub same-force : (h g : Hart) → Same h g → inForce g ≡ inForce h
-same-force h g s = rw (s .0, s .1)
+pub same-force : (h g : Hart) → Same (h .words) (g .words) → inForce g ≡ inForce h
+unfolding settingOf
+same-force h g s =
+    rw (s .kept MODE refl, s .kept MSTATUS refl, s .kept SATP refl, s .kept MENVCFG refl, s .kept SENVCFG refl, s .kept MSECCFG refl)
 
--- a CSR instruction that names ssp changes no CSR: ssp is a word of its own
-pointer-keeps : (o : CsrOperation) (n : Csr) (writes : Bool) (v rd next : ℕ) (h : Hart) → n ≡ Ssp → Same h (csrOf o n writes v rd next h)
-unfolding csrOf changedOf csrWriteOf
-pointer-keeps o n true v rd next h e = rw e (refl, refl)
-pointer-keeps o n false v rd next h e = (refl, refl)
+-- pc, elp or ssp, stored
+put : (k n : ℕ) → moves k ≡ true → {w v : List ℕ} → Same w v → Same w (v but k ≔ n)
+put k n on {w} {v} s = record {
+  long = rw length-set (s .long);
+  kept = λ j off. getD-set-other v k j n 0 (λ e. true≢false (sym on ∙ (ap moves (sym e) ∙ off))) ∙ s .kept j off;
+}
 
 module _ (source : Source) (h : Hart) (m map : List ℕ) (user : inForce h .mode ≡ User) where
-  whole-keeps : (k : Whole) → WholeOrigin source h m map k → Same h (wholeOf k h)
+  abbrev to : (next : ℕ) → Same (h .words) (h .words but PC ≔ next)
+  to next = put PC next refl (same (h .words))
+
+  -- a CSR instruction that names ssp changes no other CSR
+  pointer-keeps : (o : CsrOperation) (n : Csr) (writes : Bool) (v rd next : ℕ) → n ≡ Ssp → Same (h .words) (csrOf o n writes v rd next h .words)
+  unfolding csrOf
+  pointer-keeps o n true v rd next e = rw e (put PC next refl (put SSP _ refl (same (h .words))))
+  pointer-keeps o n false v rd next e = to next
+
+  whole-keeps : (k : Whole) → WholeOrigin source h m map k → Same (h .words) (wholeOf k h .words)
   unfolding wholeOf
-  whole-keeps (whole.Csr o n writes v rd next) w = pointer-keeps o n writes v rd next h (w .0 user)
+  whole-keeps (whole.Csr o n writes v rd next) w = pointer-keeps o n writes v rd next (w .0 user)
   whole-keeps whole.Mret w = absurd (w user)
   whole-keeps whole.Sret w = absurd (w user)
 
-  effect-keeps : (e : Effect) → Origin source h m map e → trapsOf e ≡ false → Same h (applyOf e h)
-  effect-keeps (effect.Write rd v next) o t = (refl, refl)
-  effect-keeps (effect.Jump rd link next elp) o t = (refl, refl)
-  effect-keeps (effect.Pad next) o t = (refl, refl)
-  effect-keeps (effect.Store q w v next) o t = (refl, refl)
-  effect-keeps (effect.Push q v ssp next) o t = (refl, refl)
-  effect-keeps (effect.Pop ssp next) o t = (refl, refl)
-  effect-keeps (effect.Swap rd old q w v next) o t = (refl, refl)
+  effect-keeps : (e : Effect) → Origin source h m map e → trapsOf e ≡ false → Same (h .words) (applyOf e h .words)
+  effect-keeps (effect.Write rd v next) o t = to next
+  effect-keeps (effect.Jump rd link next elp) o t = put ELP _ refl (to next)
+  effect-keeps (effect.Pad next) o t = put ELP 0 refl (to next)
+  effect-keeps (effect.Store q w v next) o t = to next
+  effect-keeps (effect.Push q v ssp next) o t = put SSP ssp refl (to next)
+  effect-keeps (effect.Pop ssp next) o t = put SSP ssp refl (to next)
+  effect-keeps (effect.Swap rd old q w v next) o t = to next
   effect-keeps (effect.Whole k) o t = whole-keeps k o
   effect-keeps (effect.Trap cause tval) o t = absurd (true≢false t)
 
   -- a step in user mode that does not trap keeps the mode and the CSRs
-  pub user-keeps : trapsOf (planOf source h m map) ≡ false → Same h (applyOf (planOf source h m map) h)
+  pub user-keeps : trapsOf (planOf source h m map) ≡ false → Same (h .words) (applyOf (planOf source h m map) h .words)
   user-keeps t = effect-keeps (planOf source h m map) (origin source h m map) t

@@ -9,12 +9,12 @@ use Prim.Native.Nat.{ℕ, suc, _+_, _*_, _≤_}
 use lib.ListN.{getD, length}
 use Rattle.leaf.specs.Leaf.{leafOf, hasRight, shadowPage, validLeaf}
 use Rattle.address.specs.declared.control.Control.{Control}
-use Rattle.bank.specs.Setting.{settingOf}
+use Rattle.words.specs.Setting.{settingOf}
 use Rattle.hart.specs.declared.Hart.{Hart}
 
 -- what the mode and the CSRs say about accesses: the regime in force
 abbrev pub inForce : Hart → Control
-inForce h = settingOf (h .mode) (h .csrs) .control
+inForce h = settingOf (h .words) .control
 
 -- the leaf word of entry i of the map, which has two words an entry
 abbrev pub leafAt : (map : List ℕ) → (i : ℕ) → ℕ

@@ -94,7 +94,8 @@ one-entry c map once i j p q v w f = once i j p q v w f
 
 -- so the entry of a page that is no shadow page has another frame
 other-frame : (c : Control) (map : List ℕ) → StandsOnce c map → (i : ℕ) → Entry map i → ValidLeaf c (leafAt map i)
-    → shadowPage (c .sse) (leafOf (leafAt map i)) ≡ false → (o : ℕ) (x : Shadow c map o) → frameOf (leafAt map i) ≡ frameOf (leafAt map (x .entry)) → ⊥
+    → shadowPage (c .sse) (leafOf (leafAt map i)) ≡ false → (o : ℕ) (x : Shadow c map o)
+    → frameOf (leafAt map i) ≡ frameOf (leafAt map (x .entry)) → ⊥
 other-frame c map once i stands taken off o x f =
     let e : i ≡ x .entry = one-entry c map once (x .entry) i (x .stands) stands (x .valid) taken f in
     true≢false (sym (x .valid .0) ∙ (ap (λ (j : ℕ). shadowPage (c .sse) (leafOf (leafAt map j))) (sym e) ∙ off))

@@ -38,7 +38,8 @@ use Rattle.effect.specs.declared.Effect.the-variants as effect
 use Rattle.meaning.specs.declared.Source.{Source}
 use Rattle.effect.specs.declared.Whole.the-variants as whole
 use Rattle.meaning.specs.declared.Fetched.the-variants.{Word}
-use Rattle.bank.specs.Setting.{settingOf}
+use Rattle.words.specs.Words.{_of_, expected, PC, SSP}
+use Rattle.words.specs.Setting.{settingOf}
 use Rattle.hart.specs.Step.{planOf}
 use Rattle.hart.specs.declared.Hart.{Hart}
 use Rattle.origin.proofs.Origins.{AccessStep, CsrStep, Origin, origin}
@@ -53,17 +54,17 @@ pub record PushStep (source : Source) (h : Hart) (m map : List ℕ) (v : ℕ) (q
   pub rs1 : ℕ
   pub rs2 : ℕ
   pub off : ℕ
-  pub arrives : fetchedOf source (inForce h) (h .pc) m map ≡ Word word
+  pub arrives : fetchedOf source (inForce h) (PC of h .words) m map ≡ Word word
   pub passes : padStops h word ≡ false
   pub reads : decodeOf word ≡ Memory access.Push rd rs1 rs2 off
   pub register : v ≡ regOf (h .x) rs2
-  pub on : settingOf (h .mode) (h .csrs) .shadow ≡ true
-  pub place : placeOf (inForce h) kind.Push Double (pushOf (h .ssp)) map (length m) ≡ At q
+  pub on : settingOf (h .words) .shadow ≡ true
+  pub place : placeOf (inForce h) kind.Push Double (pushOf (SSP of h .words)) map (length m) ≡ At q
 
 -- a pop-check that the definition completes
 pub record PopStep (source : Source) (h : Hart) (m map : List ℕ) (v : ℕ) (q : Physical) : Type 0 where
   pub check : PopCheck source h m map v
-  pub on : settingOf (h .mode) (h .csrs) .shadow ≡ true
+  pub on : settingOf (h .words) .shadow ≡ true
   pub place : Permitted h m map q
   pub equal : v ≡ readOf m q Double
 
@@ -73,7 +74,7 @@ open-on true e = refl
 open-on false e = absurd (let z : _≡_ {A = ℕ} 0 1 = cc in omega arith)
 
 -- a pad check that is not made stops nothing
-unstopped : (h : Hart) (w : ℕ) → (h .elp && settingOf (h .mode) (h .csrs) .pad) ≡ false → padStops h w ≡ false
+unstopped : (h : Hart) (w : ℕ) → (expected (h .words) && settingOf (h .words) .pad) ≡ false → padStops h w ≡ false
 unstopped h w e = rw e
 
 -- a landing pad is an AUIPC
@@ -90,18 +91,18 @@ auipc-memory rd v k d a b o e = absurd (let z : _≡_ {A = ℕ} 0 1 = cc in omeg
 
 -- a memory instruction is no landing pad: where no check stops it, none was made
 module _ (h : Hart) (w : ℕ) (k : Access) (rd rs1 rs2 off : ℕ) (reads : decodeOf w ≡ Memory k rd rs1 rs2 off) (passes : padStops h w ≡ false) where
-  unchecked : (h .elp && settingOf (h .mode) (h .csrs) .pad) ≡ false
-  unchecked = go (h .elp && settingOf (h .mode) (h .csrs) .pad) (isPad w (regOf (h .x) 7)) refl refl passes
+  unchecked : (expected (h .words) && settingOf (h .words) .pad) ≡ false
+  unchecked = go (expected (h .words) && settingOf (h .words) .pad) (isPad w (regOf (h .x) 7)) refl refl passes
     where
-      go : (t p : Bool) → (h .elp && settingOf (h .mode) (h .csrs) .pad) ≡ t → isPad w (regOf (h .x) 7) ≡ p → (t && not p) ≡ false
-          → (h .elp && settingOf (h .mode) (h .csrs) .pad) ≡ false
+      go : (t p : Bool) → (expected (h .words) && settingOf (h .words) .pad) ≡ t → isPad w (regOf (h .x) 7) ≡ p → (t && not p) ≡ false
+          → (expected (h .words) && settingOf (h .words) .pad) ≡ false
       go false p e f n = e
       go true true e f n = auipc-memory _ _ k rd rs1 rs2 off (sym (pad-auipc w (regOf (h .x) 7) f) ∙ reads)
       go true false e f n = cc
 
 module _ (source : Source) (h : Hart) (m map : List ℕ) (v : ℕ) (q : Physical) where
   -- a push has the effect `Push`
-  pub push-does : PushStep source h m map v q → planOf source h m map ≡ Push q v (pushOf (h .ssp)) (nextOf (h .pc))
+  pub push-does : PushStep source h m map v q → planOf source h m map ≡ Push q v (pushOf (SSP of h .words)) (nextOf (PC of h .words))
   unfolding effectOf arrivedOf landedOf executeOf accessOf passedOf atOf doneOf
   push-does p =
       rw (
@@ -132,8 +133,8 @@ module _ (source : Source) (h : Hart) (m map : List ℕ) (v : ℕ) (q : Physical
       }
 
   -- a pop-check compares what stands at the pointer with its register
-  pub check-does : PopCheck source h m map v → settingOf (h .mode) (h .csrs) .shadow ≡ true → Permitted h m map q
-      → planOf source h m map ≡ poppedOf (readOf m q Double) v (h .ssp) (nextOf (h .pc))
+  pub check-does : PopCheck source h m map v → settingOf (h .words) .shadow ≡ true → Permitted h m map q
+      → planOf source h m map ≡ poppedOf (readOf m q Double) v (SSP of h .words) (nextOf (PC of h .words))
   unfolding effectOf arrivedOf landedOf executeOf accessOf passedOf atOf doneOf
   check-does p on place =
       rw (
@@ -146,22 +147,22 @@ module _ (source : Source) (h : Hart) (m map : List ℕ) (v : ℕ) (q : Physical
       )
 
   -- and where they are equal it has the effect `Pop`
-  pub pop-does : PopStep source h m map v q → planOf source h m map ≡ Pop (sumOf (h .ssp) 8) (nextOf (h .pc))
+  pub pop-does : PopStep source h m map v q → planOf source h m map ≡ Pop (sumOf (SSP of h .words) 8) (nextOf (PC of h .words))
   unfolding poppedOf
   pop-does p = check-does (p .check) (p .on) (p .place) ∙ rw (eq-eqb (readOf m q Double) v (sym (p .equal)))
 
   -- and where they differ it is a shadow stack fault
-  pub mismatch-does : PopCheck source h m map v → settingOf (h .mode) (h .csrs) .shadow ≡ true → Permitted h m map q
+  pub mismatch-does : PopCheck source h m map v → settingOf (h .words) .shadow ≡ true → Permitted h m map q
       → (v ≡ readOf m q Double → ⊥) → planOf source h m map ≡ Trap 18 3
   unfolding poppedOf
   mismatch-does p on place n = check-does p on place ∙ rw (ne-eqb (readOf m q Double) v (λ e. n (sym e)))
 
 -- a word that a pad check stops is the pad check's fault
-pub pad-stops : (source : Source) (h : Hart) (m map : List ℕ) (w : ℕ) → fetchedOf source (inForce h) (h .pc) m map ≡ Word w
+pub pad-stops : (source : Source) (h : Hart) (m map : List ℕ) (w : ℕ) → fetchedOf source (inForce h) (PC of h .words) m map ≡ Word w
     → padStops h w ≡ true → planOf source h m map ≡ Trap 18 2
 unfolding effectOf arrivedOf landedOf
 pad-stops source h m map w a s =
-    let (on, off) = both (h .elp && settingOf (h .mode) (h .csrs) .pad) _ s in
+    let (on, off) = both (expected (h .words) && settingOf (h .words) .pad) _ s in
     rw (a, on, not-true (isPad w (regOf (h .x) 7)) off)
 
 -- an effect `Swap` is a swap's

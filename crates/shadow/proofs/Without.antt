@@ -35,15 +35,14 @@ use Rattle.effect.specs.declared.Effect.{Effect}
 use Rattle.effect.specs.declared.Effect.the-variants.{Store, Swap, Whole}
 use Rattle.meaning.specs.declared.Source.the-variants.{Given}
 use Rattle.effect.specs.declared.Whole.the-variants.{Csr}
-use Rattle.bank.specs.Access.{shownOf, writtenOf}
-use Rattle.hart.specs.Access.{csrWriteOf}
-use Rattle.bank.specs.Legal.{csrsLegal}
-use Rattle.hart.specs.Legal.{legal}
 use Rattle.regime.specs.Regime.{controlOf, shadowOn, padOn}
-use Rattle.bank.specs.Setting.{settingOf}
-use Rattle.bank.specs.Setters.{withSatp, withSenvcfg}
-use Rattle.hart.specs.Setters.{withPc, withMode, withSsp, withCsrs}
-use Rattle.hart.specs.Step.{withReg, changedOf, csrOf, wholeOf, planOf, stepFrom}
+use Rattle.words.specs.Words.{_of_, _but_≔_, PC, MODE, SSP, SENVCFG, SATP, MENVCFG}
+use Rattle.words.specs.Access.{shownOf, writtenOf}
+use Rattle.words.specs.Legal.{wordsLegal}
+use Rattle.words.specs.Setting.{settingOf}
+use Rattle.effect.specs.Register.{putOf}
+use Rattle.hart.specs.Hart.{hart, legal}
+use Rattle.hart.specs.Step.{Outcome, csrOf, wholeOf, planOf, stepFrom}
 use Rattle.hart.specs.declared.Hart.{Hart}
 use Rattle.call.specs.Call.{refusalOf}
 use Rattle.origin.specs.Force.{inForce}
@@ -55,16 +54,16 @@ abbrev pub Accepted : (map : List ℕ) → Hart → Type 0
 Accepted map h = refusalOf h memory₀ map ≡ 0
 
 abbrev pub InUser : Hart → Type 0
-InUser h = h .mode ≡ 0
+InUser h = MODE of h .words ≡ 0
 
 abbrev pub Sv39 : Hart → Type 0
-Sv39 h = h .csrs .satp / 2 ^ 60 ≡ 8
+Sv39 h = SATP of h .words / 2 ^ 60 ≡ 8
 
 abbrev pub Menvcfg : Hart → Type 0
-Menvcfg h = sseOf (h .csrs .menvcfg) ≡ true
+Menvcfg h = sseOf (MENVCFG of h .words) ≡ true
 
 abbrev pub Senvcfg : Hart → Type 0
-Senvcfg h = sseOf (h .csrs .senvcfg) ≡ true
+Senvcfg h = sseOf (SENVCFG of h .words) ≡ true
 
 abbrev pub Once : (map : List ℕ) → Hart → Type 0
 Once map h = StandsOnce (inForce h) map
@@ -82,17 +81,25 @@ there = record { 0 = 0x80001010 }
 abbrev pub changed : List ℕ
 changed = storeOf memory₀ 0x1010 8 0x2222
 
+-- a hart with another word in place of one
+abbrev pub withWord : (k v : ℕ) → Hart → Hart
+withWord k v h = hart (h .x) (h .words but k ≔ v)
+
+-- what a step leaves that goes on to the next word
+abbrev pub left : Hart → (m : List ℕ) → Outcome
+left h m = record { hart = withWord PC 4 h; memory = m; trapped = false; cause = 0 }
+
 -- a stretch of one step that changed them and pushed nothing
 abbrev pub Changes : (map : List ℕ) → Hart → Type 0
-Changes map h = Stretch map h memory₀ (quiet ∷ []) (withPc 4 h) changed false
+Changes map h = Stretch map h memory₀ (quiet ∷ []) (withWord PC 4 h) changed false
 
 -- and what is promised of it does not hold
 abbrev pub Breaks : (map : List ℕ) → Hart → Type 0
-Breaks map h = Promise map h memory₀ (quiet ∷ []) (withPc 4 h) changed false → ⊥
+Breaks map h = Promise map h memory₀ (quiet ∷ []) (withWord PC 4 h) changed false → ⊥
 
 -- the witness's hart with an address in x2
 abbrev pub aimed : (x2 : ℕ) → Hart
-aimed x2 = withReg 2 x2 hart₀
+aimed x2 = hart (putOf 2 x2 (hart₀ .x)) (hart₀ .words)
 
 -- sd x5, 0(x2), where it reaches the shadow bytes
 abbrev pub sd : ℕ
@@ -110,11 +117,11 @@ alias = aimed 0x2010
 
 -- without Sv39: in Bare there are no pages to protect
 abbrev pub bare : Hart
-bare = withCsrs (withSatp 0 (hart₀ .csrs)) (aimed 0x80001010)
+bare = withWord SATP 0 (aimed 0x80001010)
 
 -- without user mode: in M there are none either
 abbrev pub inMachine : Hart
-inMachine = withMode 3 (aimed 0x80001010)
+inMachine = withWord MODE 3 (aimed 0x80001010)
 
 -- without "no swap": ssamoswap.d x0, x5, (x2) writes the shadow bytes and is no push
 abbrev pub ssamoswap : ℕ
@@ -135,7 +142,7 @@ abbrev pub sspopchk : ℕ
 sspopchk = 0xCDC2C073
 
 abbrev pub disabled : Hart
-disabled = withCsrs (withSenvcfg 0 (hart₀ .csrs)) hart₀
+disabled = withWord SENVCFG 0 hart₀
 
 -- what the definitions give for these, computed
 record Computed : Type 0 where
@@ -151,17 +158,17 @@ record Computed : Type 0 where
   swapping-accepted : Accepted map₀ swapping
   swapping-shadow : Shadow (inForce swapping) map₀ 0x1010
   swapping-swaps : planOf (Given ssamoswap) swapping memory₀ map₀ ≡ Swap 0 0x1111 there Double 0x2222 4
-  swapping-leaves : stepFrom (Given ssamoswap) swapping memory₀ map₀ ≡ record { hart = withPc 4 swapping; memory = changed; trapped = false; cause = 0 }
+  swapping-leaves : stepFrom (Given ssamoswap) swapping memory₀ map₀ ≡ left swapping changed
   pointing-accepted : Accepted map₀ pointing
   pointing-writes : planOf (Given csrrw) pointing memory₀ map₀ ≡ Whole (Csr operation.Write Ssp true 0x1020 0 4)
-  pointing-leaves : stepFrom (Given csrrw) pointing memory₀ map₀ ≡ record { hart = withPc 4 (withSsp 0x1020 pointing); memory = memory₀; trapped = false; cause = 0 }
+  pointing-leaves : stepFrom (Given csrrw) pointing memory₀ map₀ ≡ left (withWord SSP 0x1020 pointing) memory₀
   disabled-accepted : Accepted map₀ disabled
   disabled-checks : PopCheck (Given sspopchk) disabled memory₀ map₀ 0x2222
   disabled-permitted : Permitted disabled memory₀ map₀ there
   disabled-goes-on : stepFrom (Given sspopchk) disabled memory₀ map₀ .trapped ≡ false
 
 computed : Computed
-unfolding refusalOf legal csrsLegal memory.refusedOf page.refusedOf page.pagesOf page.anyLarge page.riseFrom page.strictlyRise stepFrom wholeOf csrOf changedOf csrWriteOf writtenOf shownOf effectOf fetchedOf arrivedOf landedOf executeOf decodeOf base.storeOf swapOf system.systemOf system.csrOf zimopOf csrs.csrOf csrs.reachedOf reachOf accessOf passedOf atOf doneOf placeOf reachedOf control.modeOf transformedOf maskOf alignedOf pagedPlaceOf plainPlaceOf throughOf page.lookupOf settleOf judgeOf insideOf withinOf settingOf controlOf shadowOn padOn modeOf memory₀ bytesOf number loadOf extendOf
+unfolding refusalOf legal wordsLegal memory.refusedOf page.refusedOf page.pagesOf page.anyLarge page.riseFrom page.strictlyRise stepFrom wholeOf csrOf writtenOf shownOf effectOf fetchedOf arrivedOf landedOf executeOf decodeOf base.storeOf swapOf system.systemOf system.csrOf zimopOf csrs.csrOf csrs.reachedOf reachOf accessOf passedOf atOf doneOf placeOf reachedOf control.modeOf transformedOf maskOf alignedOf pagedPlaceOf plainPlaceOf throughOf page.lookupOf settleOf judgeOf insideOf withinOf settingOf controlOf shadowOn padOn modeOf memory₀ bytesOf number loadOf extendOf
 computed = record {
   alias-accepted = refl;
   alias-shadow = record { entry = 1; stands = omega arith; valid = (refl, refl); frame = refl };
@@ -216,7 +223,8 @@ needs-sv39 = (
 
 -- "in user mode"
 pub needs-user :
-    Accepted map₀ inMachine × Sv39 inMachine × Menvcfg inMachine × Senvcfg inMachine × Once map₀ inMachine × Changes map₀ inMachine × Breaks map₀ inMachine
+    Accepted map₀ inMachine × Sv39 inMachine × Menvcfg inMachine × Senvcfg inMachine × Once map₀ inMachine
+    × Changes map₀ inMachine × Breaks map₀ inMachine
 needs-user = (
   computed .inMachine-accepted,
   refl,
@@ -232,7 +240,7 @@ pub needs-no-swap :
     Starts map₀ swapping memory₀
     × NoPointerWrite (planOf (Given ssamoswap) swapping memory₀ map₀)
     × (planOf (Given ssamoswap) swapping memory₀ map₀ ≡ Swap 0 0x1111 there Double 0x2222 4)
-    × (stepFrom (Given ssamoswap) swapping memory₀ map₀ ≡ record { hart = withPc 4 swapping; memory = changed; trapped = false; cause = 0 })
+    × (stepFrom (Given ssamoswap) swapping memory₀ map₀ ≡ left swapping changed)
     × Breaks map₀ swapping
 needs-no-swap = (
   together map₀ swapping (computed .swapping-accepted) refl refl refl refl (once₀ (inForce swapping)),
@@ -247,8 +255,8 @@ pub needs-no-pointer-write :
     Starts map₀ pointing memory₀
     × NoSwap (planOf (Given csrrw) pointing memory₀ map₀)
     × (planOf (Given csrrw) pointing memory₀ map₀ ≡ Whole (Csr operation.Write Ssp true 0x1020 0 4))
-    × (stepFrom (Given csrrw) pointing memory₀ map₀ ≡ record { hart = withPc 4 (withSsp 0x1020 pointing); memory = memory₀; trapped = false; cause = 0 })
-    × (Promise map₀ pointing memory₀ (quiet ∷ []) (withPc 4 (withSsp 0x1020 pointing)) memory₀ false → ⊥)
+    × (stepFrom (Given csrrw) pointing memory₀ map₀ ≡ left (withWord SSP 0x1020 pointing) memory₀)
+    × (Promise map₀ pointing memory₀ (quiet ∷ []) (withWord PC 4 (withWord SSP 0x1020 pointing)) memory₀ false → ⊥)
 unfolding pushes pops
 needs-no-pointer-write = (
   together map₀ pointing (computed .pointing-accepted) refl refl refl refl (once₀ (inForce pointing)),
@@ -272,5 +280,6 @@ needs-senvcfg = (
   once₀ (inForce disabled),
   start,
   (λ p.
-      false≢true (sym (computed .disabled-goes-on) ∙ p .checks refl (Given sspopchk) 0x2222 there (computed .disabled-checks) (computed .disabled-permitted) .1 (λ e. absurd (omega (arith, e))))),
+      let traps = p .checks refl (Given sspopchk) 0x2222 there (computed .disabled-checks) (computed .disabled-permitted) .1 in
+      false≢true (sym (computed .disabled-goes-on) ∙ traps (λ e. absurd (omega (arith, e))))),
 )

@@ -29,15 +29,14 @@ use Rattle.effect.specs.declared.Effect.the-variants.{Write, Jump, Pad, Store, 
 use Rattle.effect.specs.declared.Effect.the-variants as effect
 use Rattle.meaning.specs.declared.Source.{Source}
 use Rattle.meaning.specs.declared.Source.the-variants.{Fetch}
-use Rattle.bank.specs.Legal.{csrsLegal}
-use Rattle.hart.specs.Legal.{legal}
+use Rattle.hart.specs.Hart.{hart, legal, startOf}
 use Rattle.regime.specs.Regime.{controlOf, shadowOn, padOn}
-use Rattle.bank.specs.Setting.{settingOf}
-use Rattle.bank.specs.Setters.{withSatp, withMenvcfg, withSenvcfg}
-use Rattle.hart.specs.Setters.{withPc, withX, withMode, withSsp, withCsrs, startOf}
+use Rattle.words.specs.Words.{_of_, _but_≔_, PC, MODE, SSP, SENVCFG, SATP, MENVCFG, MCAUSE, MTVAL}
+use Rattle.words.specs.Legal.{wordsLegal}
+use Rattle.words.specs.Setting.{settingOf}
+use Rattle.words.specs.Trap.{trapOf, trapM}
 use Rattle.transfer.specs.Commit.{memoryOf}
 use Rattle.hart.specs.Step.{applyOf, trapsOf, planOf, stepFrom}
-use Rattle.hart.specs.Trap.{trapOf}
 use Rattle.hart.specs.declared.Hart.{Hart}
 use Rattle.call.specs.Call.{refusalOf}
 use Rattle.origin.specs.Force.{inForce}
@@ -66,10 +65,8 @@ map₀ = 0 ∷ 0x20000059 ∷ 1 ∷ 0x200004D5 ∷ []
 -- in user mode with Sv39 and both enables; x1 is 0x1111 and x5 is 0x2222; the pointer is at the 0x1111 in memory
 abbrev pub hart₀ : Hart
 hart₀ =
-    withMode 0
-    (withSsp 0x1010
-    (withX (0 ∷ 0x1111 ∷ 0 ∷ 0 ∷ 0 ∷ 0x2222 ∷ replicate 26 0)
-    (withCsrs (withSatp (8 * 2 ^ 60) (withMenvcfg 8 (withSenvcfg 8 (startOf .csrs)))) startOf)))
+    hart (0 ∷ 0x1111 ∷ 0 ∷ 0 ∷ 0 ∷ 0x2222 ∷ replicate 26 0)
+    (startOf .words but MODE ≔ 0 but SSP ≔ 0x1010 but SATP ≔ 8 * 2 ^ 60 but MENVCFG ≔ 8 but SENVCFG ≔ 8)
 
 -- the map's two frames differ, so whatever the regime is, each stands in one entry
 pub once₀ : (c : Control) → StandsOnce c map₀
@@ -82,30 +79,33 @@ once₀ c (suc (suc i)) j a b v w f = absurd (omega (arith, a))
 
 -- the hypotheses
 pub starts : Starts map₀ hart₀ memory₀
-unfolding refusalOf legal csrsLegal memory.refusedOf page.refusedOf page.pagesOf page.anyLarge page.riseFrom page.strictlyRise memory₀ bytesOf
+unfolding refusalOf legal wordsLegal memory.refusedOf page.refusedOf page.pagesOf page.anyLarge page.riseFrom page.strictlyRise memory₀ bytesOf
 starts = record { accepted = refl; user = refl; sv39 = refl; menvcfg = refl; senvcfg = refl; once = once₀ (inForce hart₀) }
 
 -- the hart after each step: the pointer and pc have moved
+abbrev moved : (pc ssp : ℕ) → Hart
+moved pc ssp = hart (hart₀ .x) (hart₀ .words but PC ≔ pc but SSP ≔ ssp)
+
 abbrev pub hart₁ : Hart
-hart₁ = withPc 4 (withSsp 0x1008 hart₀)
+hart₁ = moved 4 0x1008
 
 abbrev pub hart₂ : Hart
-hart₂ = withPc 8 (withSsp 0x1000 hart₀)
+hart₂ = moved 8 0x1000
 
 abbrev pub hart₃ : Hart
-hart₃ = withPc 12 (withSsp 0x1008 hart₀)
+hart₃ = moved 12 0x1008
 
 abbrev pub hart₄ : Hart
-hart₄ = withPc 16 (withSsp 0x1010 hart₀)
+hart₄ = moved 16 0x1010
 
 abbrev pub hart₅ : Hart
-hart₅ = withPc 20 (withSsp 0x1018 hart₀)
+hart₅ = moved 20 0x1018
 
 abbrev pub hart₆ : Hart
-hart₆ = withPc 24 (withSsp 0x1010 hart₀)
+hart₆ = moved 24 0x1010
 
 abbrev pub hart₇ : Hart
-hart₇ = trapOf hart₆ 18 3
+hart₇ = hart (hart₆ .x) (trapOf (hart₆ .words) 18 3)
 
 -- memory after each push
 abbrev pub memory₁ : List ℕ
@@ -186,8 +186,9 @@ pub stretch : Stretch map₀ hart₀ memory₀ (quiet ∷ events₆) hart₇ mem
 stretch = then Fetch _ before (effects .seventh) refl
 
 -- its end: a shadow stack fault to M, where the pointer did not move
-pub ended : (hart₇ .ssp ≡ 0x1010) × (hart₇ .mode ≡ 3) × (hart₇ .csrs .mcause ≡ 18) × (hart₇ .csrs .mtval ≡ 3)
-unfolding trapOf modeOf
+pub ended :
+    (SSP of hart₇ .words ≡ 0x1010) × (MODE of hart₇ .words ≡ 3) × (MCAUSE of hart₇ .words ≡ 18) × (MTVAL of hart₇ .words ≡ 3)
+unfolding trapOf trapM modeOf
 ended = (refl, refl, refl, refl)
 
 -- the statement's words apply to it: three of its steps are pop-checks, of x5, x1 and x1, and their accesses are permitted; and the byte at

@@ -44,7 +44,8 @@ use Rattle.effect.specs.declared.Effect.the-variants as effect
 use Rattle.meaning.specs.declared.Source.{Source}
 use Rattle.effect.specs.declared.Whole.the-variants as whole
 use Rattle.meaning.specs.declared.Fetched.the-variants.{Word}
-use Rattle.bank.specs.Setting.{settingOf}
+use Rattle.words.specs.Words.{_of_, expected, PC, MODE, SSP, SATP, MENVCFG, SENVCFG}
+use Rattle.words.specs.Setting.{settingOf}
 use Rattle.hart.specs.Step.{planOf, stepFrom}
 use Rattle.hart.specs.declared.Hart.{Hart}
 use Rattle.call.specs.Call.{refusalOf}
@@ -64,10 +65,10 @@ StandsOnce c map =
 -- "Start in user mode with Sv39 and both shadow-stack enables on", from a state that refusals 1 to 3 do not apply to
 pub record Starts (map : List ℕ) (h₀ : Hart) (m₀ : List ℕ) : Type 0 where
   pub accepted : refusalOf h₀ m₀ map ≡ 0
-  pub user : h₀ .mode ≡ 0
-  pub sv39 : h₀ .csrs .satp / 2 ^ 60 ≡ 8
-  pub menvcfg : sseOf (h₀ .csrs .menvcfg) ≡ true
-  pub senvcfg : sseOf (h₀ .csrs .senvcfg) ≡ true
+  pub user : MODE of h₀ .words ≡ 0
+  pub sv39 : SATP of h₀ .words / 2 ^ 60 ≡ 8
+  pub menvcfg : sseOf (MENVCFG of h₀ .words) ≡ true
+  pub senvcfg : sseOf (SENVCFG of h₀ .words) ≡ true
   pub once : StandsOnce (inForce h₀) map
 
 -- what a step is to the shadow stack: a push of a value at a physical address, a pop, or neither
@@ -145,7 +146,7 @@ latest (quiet ∷ es) o starting = latest es o starting
 
 -- a landing pad check stops the word w
 abbrev pub padStops : Hart → (w : ℕ) → Bool
-padStops h w = (h .elp && settingOf (h .mode) (h .csrs) .pad) && not (isPad w (regOf (h .x) 7))
+padStops h w = (expected (h .words) && settingOf (h .words) .pad) && not (isPad w (regOf (h .x) 7))
 
 -- "a pop-check that no landing pad check stops": the word that the step fetches or is given is one, of a register that holds v
 pub record PopCheck (source : Source) (h : Hart) (m map : List ℕ) (v : ℕ) : Type 0 where
@@ -154,14 +155,14 @@ pub record PopCheck (source : Source) (h : Hart) (m map : List ℕ) (v : ℕ) : 
   pub rs1 : ℕ
   pub rs2 : ℕ
   pub off : ℕ
-  pub arrives : fetchedOf source (inForce h) (h .pc) m map ≡ Word word
+  pub arrives : fetchedOf source (inForce h) (PC of h .words) m map ≡ Word word
   pub passes : padStops h word ≡ false
   pub reads : decodeOf word ≡ instruction.Memory access.Pop rd rs1 rs2 off
   pub register : v ≡ regOf (h .x) rs1
 
 -- "and whose access is permitted": its eight bytes at the pointer, masked and translated, are at the physical address q
 abbrev pub Permitted : Hart → (m map : List ℕ) → (q : Physical) → Type 0
-Permitted h m map q = placeOf (inForce h) kind.Pop Double (h .ssp) map (length m) ≡ At q
+Permitted h m map q = placeOf (inForce h) kind.Pop Double (SSP of h .words) map (length m) ≡ At q
 
 -- the values that were pushed and not yet popped, "last in first out"
 unfoldable pub unmatched : List Event → List ℕ
@@ -176,7 +177,7 @@ matchOf es m₀ q = getD (unmatched es) 0 (readOf m₀ q Double)
 
 -- what holds at the end of a stretch; "a pop-check" is one that comes next, so this is said of each one in the stretch and of one after it
 pub record Promise (map : List ℕ) (h₀ : Hart) (m₀ : List ℕ) (es : List Event) (h : Hart) (m : List ℕ) (trapped : Bool) : Type 0 where
-  pub pointer : Moved (h₀ .ssp) (h .ssp) es
+  pub pointer : Moved (SSP of h₀ .words) (SSP of h .words) es
   pub bytes : (o : ℕ) → Shadow (inForce h₀) map o → getD m o 0 ≡ latest es o (getD m₀ o 0)
   -- "traps exactly when its register differs from" its match
   pub checks : trapped ≡ false → (source : Source) (v : ℕ) (q : Physical) → PopCheck source h m map v → Permitted h m map q
