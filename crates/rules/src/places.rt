@@ -5,6 +5,7 @@
 // 1 S, 3 M), MPRV, MPP, whether satp says Sv39, SUM, MXR, menvcfg.SSE, the PMM of senvcfg, menvcfg and
 // mseccfg, the address, the length of memory, and the words of the map. The wanted ones are 0, the
 // physical address and 0, or 1, the cause and tval.
+ghost use lib.ListN.{length};
 ghost use mathlib.Core.Path.{_≡_};
 ghost use Rattle.rules.specs.Kinds.{kindOf};
 ghost use Prim.Native.Nat.{_≤_, _^_};
@@ -111,12 +112,36 @@ fn shown(p: Place) -> [u64; 3] {
     }
 }
 
-fn translated(n: &[u64], map: &[u64], len: u64) -> Place
-    requires { ⌜ len ≤ 2 ^ 20 ⌝ }
+fn translated(mem: &[u8], n: &[u64], map: &[u64]) -> Place
+    requires { ⌜ length (now mem) ≤ 2 ^ 20 ⌝ }
 {
     let k = kind(row::at(n, 0));
     let w = width::of(row::at(n, 1));
-    steps::translate(control(n), k, w, Virtual(row::at(n, 12)), map, len)
+    steps::translate(control(n), k, w, Virtual(row::at(n, 12)), map, mem)
+}
+
+// The case in a room of bytes, of which memory is the first `len`.
+fn within(n: &[u64], len: usize, room: &mut [u8]) -> Place
+    requires { ⌜ (len ≤ length (now room)) × (len ≤ 2 ^ 20) ⌝ }
+{
+    if n.len() < MAP {
+        return Place::Fault(0, 0);
+    }
+    translated(&room[0..len], n, &n[MAP..])
+}
+
+// 1,048,576 zeros. Whoever has them can be lent nothing that it may write to: the checker takes too long over a long array beside that.
+fn room() -> [u8; 1048576]
+    ensures { λ r. ⌜ 1048576 ≡ length r ⌝ }
+{
+    [0; 1048576]
+}
+
+fn tried(n: &[u64], len: usize) -> Place
+    requires { ⌜ len ≤ 1048576 ⌝ }
+{
+    let mut room = room();
+    within(n, len, &mut room[0..1048576])
 }
 
 pub fn run(n: &[u64], got: &mut [u64; MOST]) -> usize
@@ -132,7 +157,7 @@ pub fn run(n: &[u64], got: &mut [u64; MOST]) -> usize
     if !known(n, &values()) {
         return 0;
     }
-    let numbers = shown(translated(n, &n[MAP..], len));
+    let numbers = shown(tried(n, len as usize));
     row::copy(got, 0, &numbers);
     3
 }
