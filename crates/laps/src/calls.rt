@@ -4,9 +4,9 @@ ghost use mathlib.Core.Path.{_≡_};
 ghost use lib.ListN.{length};
 ghost use Rattle.words.specs.Words.{_of_, PC};
 use hart::Hart;
-use hart::methods;
+use words::COUNT;
 use words::MENVCFG;
-use words::MODE;
+use words::MSTATUS;
 use words::PC;
 use words::SATP;
 use words::SENVCFG;
@@ -39,16 +39,20 @@ pub fn map() -> [u64; 4]
 pub fn start() -> Hart
     ensures { λ r. ⌜ PC of r .words ≡ 0x1000 ⌝ }
 {
-    let mut h = methods::start();
-    h.x[10] = 500_000;
-    h.x[12] = 0x1010;
-    h.words[PC] = 0x1000;
-    h.words[MODE] = 0;
-    h.words[SSP] = 0x5800;
-    h.words[SENVCFG] = 0xc;
-    h.words[SATP] = 0x8000_0000_0000_0000;
-    h.words[MENVCFG] = 0x8;
-    h
+    let mut x = [0u64; 32];
+    x[10] = 500_000;
+    x[12] = 0x1010;
+    let mut w = [0u64; COUNT];
+    w[PC] = 0x1000;
+    w[SSP] = 0x5800;
+    w[SENVCFG] = 0xc;
+    w[SATP] = 0x8000_0000_0000_0000;
+    w[MSTATUS] = 0xa_0000_0000;
+    w[MENVCFG] = 0x8;
+    Hart {
+        x,
+        words: w,
+    }
 }
 
 // x5 has counted 500,000 turns, x1 is the return address of each, and so is what was pushed last, at 0x57F8, the second of the
