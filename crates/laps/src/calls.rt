@@ -49,10 +49,7 @@ pub fn start() -> Hart
     w[SATP] = 0x8000_0000_0000_0000;
     w[MSTATUS] = 0xa_0000_0000;
     w[MENVCFG] = 0x8;
-    Hart {
-        x,
-        words: w,
-    }
+    Hart { x, words: w }
 }
 
 // x5 has counted 500,000 turns, x1 is the return address of each, and so is what was pushed last, at 0x57F8, the second of the

@@ -22,9 +22,16 @@ returns c =
     let a = i .before .before .before .before .before .before .before .args in
     let run : Run = runFrom (a .source) (a .budget) (hart (a .x .now) (a .rest .now)) (a .mem .now) (a .map .now) in
     let (answer, (left, memory)) = r .run .ensures in
-    rw (taken (a .source) (a .budget) (a .x .now) (a .rest .now) (a .mem .now) (a .map .now) (sym (i .before .run-refusal .ensures) ∙ i .if1 .taken))
-    (refl, (ap (λ (h : Hart). h .x) left, (ap (λ (h : Hart). h .words) left,
-    (memory, told run (r .run .result) (c .before .flag .result) answer (c .before .flag .ensures)))))
+    rw (taken (a .source) (a .budget) (a .x .now) (a .rest .now) (a .mem .now) (a .map .now) (sym (i .before .run-refusal .ensures) ∙ i .if1 .taken)) (
+      refl,
+      (
+        ap (λ (h : Hart). h .x) left,
+        (
+          ap (λ (h : Hart). h .words) left,
+          (memory, told run (r .run .result) (c .before .flag .result) answer (c .before .flag .ensures)),
+        ),
+      ),
+    )
 
 returns-2 : tie.Need-returns-2
 returns-2 c =
