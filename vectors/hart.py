@@ -97,7 +97,7 @@ def with_settings(hart, words, must_change):
     after, taken = dict(hart), dict.fromkeys(PARTS, 0)
     for word, name, text in settings(words):
         part, low, bits = named(name)
-        most = 1 if part == "elp" else (1 << bits) - 1
+        most = (1 << bits) - 1
         if name in OF_MODES and text.isalpha():
             value = choice(text, {mode: n for mode, n in MODES.items() if n <= most}, f"value of {name}")
         else:

@@ -18,10 +18,7 @@ pub fn given(n: &[u64]) -> Hart
     let mut w = [0u64; COUNT];
     row::take(&mut w, n, 35);
     w[PC] = row::at(n, 3);
-    Hart {
-        x,
-        words: w,
-    }
+    Hart { x, words: w }
 }
 
 // Puts the 52 numbers of a hart into a row, the first of them at `from`. Answers where the row goes on after them.

@@ -10,10 +10,10 @@ ghost use lib.ListN.{length};
 use acts::state;
 use call::Answer;
 use hart::Hart;
-use hart::words;
 use lines::line::MOST;
 use lines::row;
 use scene::Difference;
+use words::flag;
 
 // How many numbers are wanted before the pairs.
 const WANTED: usize = 56;
@@ -44,7 +44,7 @@ fn on(n: &[u64], mem: &mut [u8], map: &[u64; MOST], count: usize) -> Answer
 fn shown(a: Answer, got: &mut [u64; MOST]) {
     row::put(&mut *got, 0, a.refusal);
     row::put(&mut *got, 1, a.count);
-    row::put(&mut *got, 2, words::flag(a.trapped));
+    row::put(&mut *got, 2, flag(a.trapped));
     row::put(&mut *got, 3, a.cause);
     let h = a.hart;
     state::shown(h, got, 4);

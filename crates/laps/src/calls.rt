@@ -2,8 +2,15 @@
 // through x12; it starts with a landing pad, pushes its return address, counts, checks it and returns.
 ghost use mathlib.Core.Path.{_≡_};
 ghost use lib.ListN.{length};
+ghost use Rattle.words.specs.Words.{_of_, PC};
 use hart::Hart;
-use hart::setters;
+use words::COUNT;
+use words::MENVCFG;
+use words::MSTATUS;
+use words::PC;
+use words::SATP;
+use words::SENVCFG;
+use words::SSP;
 
 // The program, at virtual address 0x1000; x10 counts the turns down.
 pub fn code() -> [u64; 9]
@@ -30,22 +37,19 @@ pub fn map() -> [u64; 4]
 }
 
 pub fn start() -> Hart
-    ensures { λ r. ⌜ r .pc ≡ 0x1000 ⌝ }
+    ensures { λ r. ⌜ PC of r .words ≡ 0x1000 ⌝ }
 {
-    let mut h = setters::start();
-    let c = h.csrs
-        .with_satp(0x8000_0000_0000_0000)
-        .with_menvcfg(0x8)
-        .with_senvcfg(0xc);
     let mut x = [0u64; 32];
     x[10] = 500_000;
     x[12] = 0x1010;
-    h.pc = 0x1000;
-    h.x = x;
-    h.mode = 0;
-    h.ssp = 0x5800;
-    h.csrs = c;
-    h
+    let mut w = [0u64; COUNT];
+    w[PC] = 0x1000;
+    w[SSP] = 0x5800;
+    w[SENVCFG] = 0xc;
+    w[SATP] = 0x8000_0000_0000_0000;
+    w[MSTATUS] = 0xa_0000_0000;
+    w[MENVCFG] = 0x8;
+    Hart { x, words: w }
 }
 
 // x5 has counted 500,000 turns, x1 is the return address of each, and so is what was pushed last, at 0x57F8, the second of the

@@ -3,11 +3,11 @@ ghost use mathlib.Core.Path.{_≡_};
 ghost use Prim.Native.Nat.{_≤_};
 ghost use lib.ListN.{length};
 use hart::Hart;
-use hart::words;
 use isa::Width;
 use lines::line::MOST;
 use lines::row;
 use std::num;
+use words::flag;
 
 // How many steps a run may take, and how many runs a lap has at most.
 const BUDGET: u64 = 1_000_000;
@@ -91,17 +91,17 @@ fn doubles(got: &mut [u64; MOST], mem: &[u8], at: usize) {
     }
 }
 
-// Puts what is compared into a row: x0 to x31, the twenty words of `hart::words`, how many runs and steps there were, whether the last
+// Puts what is compared into a row: x0 to x31, the words of crate `words`, how many runs and steps there were, whether the last
 // one trapped, its cause, and four doublewords of memory from `at` on. Answers how many steps there were.
 pub fn numbers(got: &mut [u64; MOST], r: Ran, mem: &[u8], at: usize) -> u64
     ensures { λ n. ⌜ n ≡ r .steps ⌝ }
 {
     let h = r.hart;
     let x = h.x;
-    let rest = words::rest_of(h);
-    let ends = [r.runs, r.steps, words::flag(r.trapped), r.cause];
+    let w = h.words;
+    let ends = [r.runs, r.steps, flag(r.trapped), r.cause];
     row::copy(&mut *got, 0, &x);
-    row::copy(&mut *got, 32, &rest);
+    row::copy(&mut *got, 32, &w);
     row::copy(&mut *got, 52, &ends);
     doubles(got, mem, at);
     r.steps

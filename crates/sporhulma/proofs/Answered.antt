@@ -1,49 +1,46 @@
 -- What a call leaves, by what it answers: refused, the words as they were; taken, the run's.
 -- Assumes nothing.
-use mathlib.Core.Bool.{true, false}
+use mathlib.Core.Bool.{Bool, true, false}
 use mathlib.Core.List.{List, [], _∷_}
-use mathlib.Core.Path.{_≡_}
-use Prim.Native.Nat.{ℕ}
+use mathlib.Core.Path.{_≡_, refl}
+use Prim.Native.Nat.{ℕ, _<_}
+use native.Mathlib.Omega.{arith}
+use borrow.Author.Tests.{ltb-true}
 use lib.Dec.{eqb}
-use lib.ListN.{length}
 use Rattle.meaning.specs.declared.Source.{Source}
-use Rattle.hart.specs.Run.{Run, runFrom, toldOf}
-use Rattle.hart.specs.Setters.{hartOf}
-use Rattle.hart.specs.Words.{flagOf, restOf}
-use Rattle.hart.specs.declared.engine.Told.{Told}
-use Rattle.call.specs.Call.{runRefusalOf}
-use Rattle.sporhulma.specs.Boundary.{Left, leftFrom}
-use Rattle.sporhulma.specs.Words.{noHart}
-use Rattle.sporhulma.proofs.Kept.{words-back}
-
--- a run, as words
-abbrev pub ranLeft : Run → Left
-ranLeft r = record {
-  result = 0;
-  x = r .hart .x;
-  rest = restOf (r .hart);
-  answer = r .count ∷ flagOf (r .trapped) ∷ r .cause ∷ [];
-  memory = r .memory;
-}
-
--- a refusal's number, and everything as given
-abbrev pub asGiven : (n : ℕ) → (x rest m : List ℕ) → Left
-asGiven n x rest m = record { result = n; x = x; rest = rest; answer = 0 ∷ 0 ∷ 0 ∷ []; memory = m }
+use Rattle.words.specs.Words.{_of_, ELP, flagOf}
+use Rattle.hart.specs.Hart.{hart, legal}
+use Rattle.hart.specs.Run.{Run, runFrom}
+use Rattle.hart.proofs.Steps.{lawful-hart}
+use Rattle.engine.specs.Told.{toldOf}
+use Rattle.engine.specs.declared.run.Told.{Told}
+use Rattle.call.specs.Call.{refusalOf, runRefusalOf, refusedWith, takenWith}
+use Rattle.sporhulma.specs.Boundary.{leftBy, leftFrom}
 
 module _ (source : Source) (budget : ℕ) (x rest m map : List ℕ) where
-  pub no-hart : noHart rest ≡ true → leftFrom source budget x rest m map ≡ asGiven 1 x rest m
+  pub taken : runRefusalOf budget (hart x rest) m map ≡ 0
+      → leftFrom source budget x rest m map ≡ leftBy (takenWith (runFrom source budget (hart x rest) m map))
   unfolding leftFrom
-  no-hart e = rw e
+  taken z = rw z
 
-  pub taken : noHart rest ≡ false → runRefusalOf budget (hartOf x rest) m map ≡ 0
-      → leftFrom source budget x rest m map ≡ ranLeft (runFrom source budget (hartOf x rest) m map)
+  pub refused : eqb (runRefusalOf budget (hart x rest) m map) 0 ≡ false
+      → leftFrom source budget x rest m map ≡ leftBy (refusedWith (runRefusalOf budget (hart x rest) m map) (hart x rest) m)
   unfolding leftFrom
-  taken e z = rw (e, z)
+  refused z = rw z
 
-  pub refused : length rest ≡ 20 → noHart rest ≡ false → eqb (runRefusalOf budget (hartOf x rest) m map) 0 ≡ false
-      → leftFrom source budget x rest m map ≡ asGiven (runRefusalOf budget (hartOf x rest) m map) x rest m
+  -- refusal 1 is the lowest
+  first-of-all : legal (hart x rest) ≡ false → runRefusalOf budget (hart x rest) m map ≡ 1
+  unfolding runRefusalOf refusalOf
+  first-of-all e = rw e
+
+  -- an elp of neither 0 nor 1 is refusal 1
+  pub other-elp : 1 < ELP of rest → leftFrom source budget x rest m map ≡ leftBy (refusedWith 1 (hart x rest) m)
   unfolding leftFrom
-  refused twenty e z = rw (e, z, words-back x rest twenty e)
+  other-elp l = go (legal (hart x rest)) refl
+    where
+      go : (b : Bool) → legal (hart x rest) ≡ b → leftFrom source budget x rest m map ≡ leftBy (refusedWith 1 (hart x rest) m)
+      go true e = absurd (omega (arith, l, ltb-true (ELP of rest) 2 (lawful-hart (hart x rest) e .words .fit ELP)))
+      go false e = rw (first-of-all e)
 
 -- the three words of an answer, from what the run tells
 pub told : (r : Run) (t : Told) (f : ℕ) → t ≡ toldOf r → f ≡ flagOf (t .trapped)

@@ -9,12 +9,12 @@ use lib.Dec.{eqb}
 use Rattle.word.specs.Choice.{pick}
 use Rattle.meaning.specs.declared.Source.{Source}
 use Rattle.meaning.specs.declared.Source.the-variants.{Fetch, Given}
+use Rattle.hart.specs.Hart.{hart}
 use Rattle.hart.specs.Run.{runFrom}
-use Rattle.hart.specs.Setters.{hartOf}
 use Rattle.hart.specs.declared.Hart.{Hart}
 use Rattle.hart.proofs.Turns.{one-step}
 use Rattle.call.specs.Call.{refusalOf, runRefusalOf, calledOf, stepFromCall, runCall}
-use Rattle.sporhulma.specs.Boundary.{leftOf, stepLeft, stepWordLeft, runLeft, leftFrom}
+use Rattle.sporhulma.specs.Boundary.{leftBy, stepLeft, stepWordLeft, runLeft, leftFrom}
 
 none-more : (n : ℕ) → pick (eqb n 0) 0 n ≡ n
 none-more n = go (eqb n 0) refl
@@ -31,11 +31,11 @@ step-called source h m map = rw (one-step source h m map, none-more (refusalOf h
 module _ (x rest m map : List ℕ) where
   pub step-one : stepLeft x rest m map ≡ leftFrom Fetch 1 x rest m map
   unfolding stepLeft leftFrom
-  step-one = ap (leftOf x rest m) (step-called Fetch (hartOf x rest) m map)
+  step-one = ap leftBy (step-called Fetch (hart x rest) m map)
 
   pub step-word-one : (word : ℕ) → stepWordLeft word x rest m map ≡ leftFrom (Given word) 1 x rest m map
   unfolding stepWordLeft leftFrom
-  step-word-one word = ap (leftOf x rest m) (step-called (Given word) (hartOf x rest) m map)
+  step-word-one word = ap leftBy (step-called (Given word) (hart x rest) m map)
 
   pub run-one : (budget : ℕ) → runLeft budget x rest m map ≡ leftFrom Fetch budget x rest m map
   unfolding runLeft runCall leftFrom

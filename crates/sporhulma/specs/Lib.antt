@@ -1,3 +1,2 @@
 pub mod Boundary
 pub mod Load
-pub mod Words
