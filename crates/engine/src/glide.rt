@@ -2,9 +2,9 @@
 // enough for the compiler to keep pc and the count in registers.
 use meaning::Context;
 use meaning::Source;
+use moves::Tried;
 use place::window;
 use place::window::Window;
-use moves::Tried;
 use quick::opcodes;
 use word::sum;
 use words::COUNT;

@@ -1,6 +1,5 @@
 // One instruction's effect.
 use effect::Effect;
-use regime::Setting;
 use effect::compute;
 use effect::csrs;
 use effect::jump;
@@ -10,6 +9,7 @@ use isa::Condition;
 use isa::Instruction;
 use isa::Operation;
 use isa::WordOperation;
+use regime::Setting;
 use transfer::access;
 use word::sum;
 ghost use mathlib.Core.Path.{_≡_};

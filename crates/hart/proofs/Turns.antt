@@ -51,8 +51,7 @@ module _ (whole : Run) (budget left : ℕ) (source : Source) (g : Hart) (m map :
       → Midway whole budget (left - 1) Fetch (stepFrom source g m map .hart) (stepFrom source g m map .memory) map
   again h q =
       let s : left ≡ suc (left - 1) = omega arith in
-      let k : budget - left + 1 ≡ budget - (left - 1) = omega arith in
-      (
+      let k : budget - left + 1 ≡ budget - (left - 1) = omega arith in (
         omega arith,
         now .1 ∙ ap (λ (n : ℕ). after (budget - left) (runFrom source n g m map)) s ∙ turn source (budget - left) (left - 1) g m map q ∙ rw k,
       )

@@ -1,12 +1,12 @@
 // What a leaf of the page map lets an access do: steps 5 to 8 of document 01's "From address to byte", in their order. Step 5, whether
 // the leaf is a page's, is asked of crate `leaf`.
+use isa::Kind;
+use isa::Mode;
 use leaf::Leaf;
 use leaf::has_right;
 use leaf::read_only;
 use leaf::shadow_page;
 use leaf::valid_leaf;
-use isa::Kind;
-use isa::Mode;
 use page::Regime;
 use page::kinds::is_fetch;
 use page::kinds::is_shadow;

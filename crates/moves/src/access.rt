@@ -16,8 +16,8 @@ use meaning::Context;
 use place::Place;
 use place::steps;
 use value::Value;
-use word::field::Fields;
 use word::field;
+use word::field::Fields;
 use word::immediate;
 use word::sum;
 use words::COUNT;
@@ -110,14 +110,7 @@ fn load_flat(w: u32, x: &mut [u64; 32], pc: u64, mem: &[u8]) -> Tried
     undone(pc)
 }
 
-pub fn load(
-    w: u32,
-    x: &mut [u64; 32],
-    pc: u64,
-    k: Context,
-    mem: &[u8],
-    map: &[u64],
-) -> Tried
+pub fn load(w: u32, x: &mut [u64; 32], pc: u64, k: Context, mem: &[u8], map: &[u64]) -> Tried
     requires { ⌜ (length (now mem) ≤ 2 ^ 20) × (k .flat ≡ flatOf (k .setting .control)) ⌝ }
     ensures { λ r. ⌜ ((ssp : ℕ) (rest : List ℕ) → Does (r .done) (executeOf (loadOf (fieldsOf w) (immI w)) w (now (x .entry)) pc ssp (k .setting) (now (mem .entry)) (now (map .entry))) (now (x .entry)) rest (now (mem .entry)) (r .pc) (now (x .exit)) rest (now (mem .entry))) ⌝ }
 {
@@ -163,14 +156,7 @@ fn store_at(
     }
 }
 
-pub fn store(
-    w: u32,
-    x: &[u64; 32],
-    pc: u64,
-    k: Context,
-    mem: &mut [u8],
-    map: &[u64],
-) -> Tried
+pub fn store(w: u32, x: &[u64; 32], pc: u64, k: Context, mem: &mut [u8], map: &[u64]) -> Tried
     requires { ⌜ (length (now mem) ≤ 2 ^ 20) × (k .flat ≡ flatOf (k .setting .control)) ⌝ }
     ensures { λ r. ⌜ ((ssp : ℕ) (rest : List ℕ) → Does (r .done) (executeOf (storeOf (fieldsOf w) (immS w)) w (now (x .entry)) pc ssp (k .setting) (now (mem .entry)) (now (map .entry))) (now (x .entry)) rest (now (mem .entry)) (r .pc) (now (x .entry)) rest (now (mem .exit))) ⌝ }
 {
@@ -194,14 +180,7 @@ fn push(v: u64, pc: u64, rest: &mut [u64; COUNT], c: Control, mem: &mut [u8], ma
     ensures { λ r. ⌜ ((x : List ℕ) → Does (r .done) (atOf access.Push (placeOf c kind.Push Double (pushOf (SSP of now (rest .entry))) (now (map .entry)) (length (now (mem .entry)))) 0 0 v (SSP of now (rest .entry)) (nextOf pc) (now (mem .entry))) x (now (rest .entry)) (now (mem .entry)) (r .pc) x (now (rest .exit)) (now (mem .exit))) ⌝ }
 {
     let top = sum::difference(rest[SSP], 8);
-    match steps::translate(
-        c,
-        Kind::Push,
-        Width::Double,
-        Virtual(top),
-        map,
-        mem,
-    ) {
+    match steps::translate(c, Kind::Push, Width::Double, Virtual(top), map, mem) {
         Place::At(q) => {
             memory::store(mem, q.index(), Width::Double, v);
             rest[SSP] = top;
@@ -220,14 +199,7 @@ fn pop(v: u64, pc: u64, rest: &mut [u64; COUNT], c: Control, mem: &[u8], map: &[
     ensures { λ r. ⌜ ((x : List ℕ) → Does (r .done) (atOf access.Pop (placeOf c kind.Pop Double (SSP of now (rest .entry)) (now (map .entry)) (length (now (mem .entry)))) 0 v 0 (SSP of now (rest .entry)) (nextOf pc) (now (mem .entry))) x (now (rest .entry)) (now (mem .entry)) (r .pc) x (now (rest .exit)) (now (mem .entry))) ⌝ }
 {
     let ssp = rest[SSP];
-    match steps::translate(
-        c,
-        Kind::Pop,
-        Width::Double,
-        Virtual(ssp),
-        map,
-        mem,
-    ) {
+    match steps::translate(c, Kind::Pop, Width::Double, Virtual(ssp), map, mem) {
         Place::At(q) => {
             if memory::load(mem, q.index(), Width::Double) == v {
                 rest[SSP] = sum::sum(ssp, 8);

@@ -12,10 +12,10 @@ ghost use Prim.Native.Nat.{_≤_, _^_};
 use super::width;
 use address::Virtual;
 use address::control::Control;
-use lines::line::MOST;
-use lines::row;
 use isa::Kind;
 use isa::Mode;
+use lines::line::MOST;
+use lines::row;
 use place::Place;
 use place::steps;
 

@@ -3,7 +3,6 @@ use address::Virtual;
 use address::access;
 use address::stack;
 use effect::Effect;
-use regime::Setting;
 use effect::system;
 use isa::Access;
 use isa::Width;
@@ -11,6 +10,7 @@ use isa::size;
 use place::Physical;
 use place::Place;
 use place::steps;
+use regime::Setting;
 use word::sum;
 ghost use mathlib.Core.Path.{_≡_};
 ghost use Prim.Native.Nat.{_^_, _≤_};
@@ -133,14 +133,7 @@ pub fn access(
         Gate::Open => {
             let c = s.control;
             let to = address(k, sum::sum(a, off), ssp);
-            let p = steps::translate(
-                c,
-                access::kind(k),
-                size::width(k),
-                to,
-                map,
-                mem,
-            );
+            let p = steps::translate(c, access::kind(k), size::width(k), to, map, mem);
             at(k, p, rd, a, b, ssp, next, mem)
         }
         Gate::Off => Effect::Write(rd, 0, next),

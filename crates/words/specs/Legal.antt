@@ -8,7 +8,7 @@ use Rattle.word.specs.Row.{legalOf}
 use Rattle.regime.specs.Legal.{isMode}
 use Rattle.csr.specs.Row.{rowOf}
 use Rattle.csr.specs.declared.Csr.{Csr}
-use Rattle.csr.specs.declared.Csr.the-variants.{Ssp, Stvec, Senvcfg, Sscratch, Sepc, Scause, Stval, Satp, Mstatus, Medeleg, Mtvec, Menvcfg, Mscratch, Mepc, Mcause, Mtval, Mseccfg}
+use Rattle.csr.specs.declared.Csr.the-variants.{Stvec, Senvcfg, Sepc, Satp, Mstatus, Medeleg, Mtvec, Menvcfg, Mepc, Mseccfg}
 use Rattle.words.specs.Words.{_of_, slotOf, COUNT, PC, MODE, ELP, SSP}
 
 -- CSR n can hold the word m: some write leaves it (while menvcfg.SSE is 1, which writes every field)
@@ -22,7 +22,8 @@ held w n = holds n (slotOf n of w)
 -- scratch, cause and tval hold any
 abbrev pub csrsLegal : (w : List ℕ) → Bool
 csrsLegal w =
-    held w Stvec && (held w Senvcfg && (held w Sepc && (held w Satp && (held w Mstatus && (held w Medeleg && (held w Mtvec && (held w Menvcfg && (held w Mepc && held w Mseccfg))))))))
+    held w Stvec && (held w Senvcfg && (held w Sepc && (held w Satp
+    && (held w Mstatus && (held w Medeleg && (held w Mtvec && (held w Menvcfg && (held w Mepc && held w Mseccfg))))))))
 
 -- pc is a multiple of 4; the mode is 0, 1 or 3; elp is 0 or 1; ssp is a multiple of 8; and each CSR holds a value that a write could leave
 unfoldable pub wordsLegal : (w : List ℕ) → Bool

@@ -13,24 +13,43 @@ pub mod setting;
 pub mod trap;
 
 pub const PC: usize = 0;
+
 pub const MODE: usize = 1;
+
 pub const ELP: usize = 2;
+
 pub const SSP: usize = 3;
+
 pub const STVEC: usize = 4;
+
 pub const SENVCFG: usize = 5;
+
 pub const SSCRATCH: usize = 6;
+
 pub const SEPC: usize = 7;
+
 pub const SCAUSE: usize = 8;
+
 pub const STVAL: usize = 9;
+
 pub const SATP: usize = 10;
+
 pub const MSTATUS: usize = 11;
+
 pub const MEDELEG: usize = 12;
+
 pub const MTVEC: usize = 13;
+
 pub const MENVCFG: usize = 14;
+
 pub const MSCRATCH: usize = 15;
+
 pub const MEPC: usize = 16;
+
 pub const MCAUSE: usize = 17;
+
 pub const MTVAL: usize = 18;
+
 pub const MSECCFG: usize = 19;
 
 // How many there are.

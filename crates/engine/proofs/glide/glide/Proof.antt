@@ -1,5 +1,5 @@
 -- `glide::glide` meets its contract: no step, or those of the loop. Assumes nothing.
-use mathlib.Core.Path.{_≡_, refl, _∙_}
+use mathlib.Core.Path.{refl, _∙_}
 use lib.Seq.{set-getD}
 use Rattle.words.specs.Words.{PC}
 use Rattle.words.proofs.Stored.{setting-kept}
@@ -22,8 +22,7 @@ returns-2 : tie.Need-returns-2
 returns-2 c =
     let s = c .before .before .steps in
     let i = c .before .before .before .before .before .before .before in
-    let w = i .before .before .before .before .before .before .before .args .w .now in
-    (
+    let w = i .before .before .before .before .before .before .before .args .w .now in (
       rw (i .before .waits .ensures (i .if1 .left) .0) (rw (set-getD w PC 0) at (s .ensures .0)),
       setting-kept PC (s .result .pc) (s .last .1 .0) refl ∙ s .ensures .1 .1,
     )

@@ -1,6 +1,5 @@
 -- `glide::waits` meets its contract: a case an arm. Assumes nothing.
 use mathlib.Core.Bool.{true≢false}
-use mathlib.Core.Path.{_≡_}
 use native.Mathlib.Omega.{arith}
 use borrow.Author.Tests.{ltb-false}
 use borrow.Author.Needs.{needs}
