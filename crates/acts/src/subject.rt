@@ -51,7 +51,9 @@ fn held(letter: u8, c: Counts, s: &[u8], at: Line, wanted: &[u64], got: &[u64]) 
             c,
             s,
             at,
-            b"refusal count trapped cause pc x0 x1 x2 x3 x4 x5 x6 x7 x8 x9 x10 x11 x12 x13 x14 x15 x16 x17 x18 x19 x20 x21 x22 x23 x24 x25 x26 x27 x28 x29 x30 x31 mode elp ssp stvec senvcfg sscratch sepc scause stval satp mstatus medeleg mtvec menvcfg mscratch mepc mcause mtval mseccfg wrong-in-memory-at there ",
+            b"refusal count trapped cause pc x0 x1 x2 x3 x4 x5 x6 x7 x8 x9 x10 x11 x12 x13 x14 x15 x16 x17 x18 x19 x20 x21 x22 x23 x24 x25 x26 x27
+                x28 x29 x30 x31 mode elp ssp stvec senvcfg sscratch sepc scause stval satp mstatus medeleg mtvec menvcfg mscratch mepc mcause mtval
+                    mseccfg wrong-in-memory-at there ",
             wanted,
             got,
         ),
@@ -59,7 +61,9 @@ fn held(letter: u8, c: Counts, s: &[u8], at: Line, wanted: &[u64], got: &[u64]) 
             c,
             s,
             at,
-            b"illegal-or-refused value pc x0 x1 x2 x3 x4 x5 x6 x7 x8 x9 x10 x11 x12 x13 x14 x15 x16 x17 x18 x19 x20 x21 x22 x23 x24 x25 x26 x27 x28 x29 x30 x31 mode elp ssp stvec senvcfg sscratch sepc scause stval satp mstatus medeleg mtvec menvcfg mscratch mepc mcause mtval mseccfg ",
+            b"illegal-or-refused value pc x0 x1 x2 x3 x4 x5 x6 x7 x8 x9 x10 x11 x12 x13 x14 x15 x16 x17 x18 x19 x20 x21 x22 x23 x24 x25 x26 x27 x28
+                x29 x30 x31 mode elp ssp stvec senvcfg sscratch sepc scause stval satp mstatus medeleg mtvec menvcfg mscratch mepc mcause mtval
+                    mseccfg ",
             wanted,
             got,
         ),

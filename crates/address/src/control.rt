@@ -4,7 +4,8 @@ use isa::Kind;
 use isa::Mode;
 use page::Regime;
 ghost use mathlib.Core.Path.{_≡_};
-ghost use Rattle.address.specs.Control.{underMprv, effectiveOf, modeOf, pmmOf, pagedOf, liftedOf, unmaskedFor, unmaskedOf, regimeOf, bareOf, flatOf};
+ghost use Rattle.address.specs.Control.{underMprv, effectiveOf, modeOf, pmmOf, pagedOf, liftedOf, unmaskedFor, unmaskedOf, regimeOf, bareOf};
+ghost use Rattle.address.specs.Control.{flatOf};
 
 // What a hart's mode and CSRs say about accesses: sv39 is satp.MODE 8, sse is menvcfg.SSE, and the last three
 // are the PMMs of senvcfg, menvcfg and mseccfg.

@@ -7,7 +7,8 @@ use Rattle.word.specs.declared.field.Fields.{Fields}
 use Rattle.isa.specs.declared.Width.the-variants.{Byte, Half, Word, Double}
 use Rattle.isa.specs.declared.Access.the-variants.{Load, Store}
 use Rattle.isa.specs.declared.Condition.the-variants.{Equal, NotEqual, Less, NotLess, LessUnsigned, NotLessUnsigned}
-use Rattle.isa.specs.declared.Operation.the-variants.{Add, Sub, Sll, Slt, Sltu, Xor, Srl, Sra, Or, And, Mul, Mulh, Mulhsu, Mulhu, Div, Divu, Rem, Remu, Min, Minu, Max, Maxu, Clz, Ctz, Cpop}
+use Rattle.isa.specs.declared.Operation.the-variants.{Add, Sub, Sll, Slt, Sltu, Xor, Srl, Sra, Or, And, Mul, Mulh, Mulhsu, Mulhu, Div, Divu, Rem}
+use Rattle.isa.specs.declared.Operation.the-variants.{Remu, Min, Minu, Max, Maxu, Clz, Ctz, Cpop}
 use Rattle.isa.specs.declared.WordOperation.the-variants.{Addw, Subw, Sllw, Srlw, Sraw, Mulw, Divw, Divuw, Remw, Remuw, Clzw, Ctzw, Cpopw}
 use Rattle.isa.specs.declared.Instruction.{Instruction}
 use Rattle.isa.specs.declared.Instruction.the-variants.{Illegal, Jalr, Branch, Memory, OpImm, OpImm32, Op, Op32, Fence}

@@ -8,7 +8,8 @@ use isa::Width;
 use isa::WordOperation;
 use word::field::Fields;
 ghost use mathlib.Core.Path.{_≡_};
-ghost use Rattle.base.specs.Base.{jalrOf, branchOf, loadOf, storeOf, countOf, countWordOf, shiftOf, opImmOf, wordShiftOf, opImm32Of, extensionOf, opOf, extension32Of, op32Of, miscMemOf};
+ghost use Rattle.base.specs.Base.{jalrOf, branchOf, loadOf, storeOf, countOf, countWordOf, shiftOf, opImmOf, wordShiftOf, opImm32Of};
+ghost use Rattle.base.specs.Base.{extensionOf, opOf, extension32Of, op32Of, miscMemOf};
 
 pub fn jalr(f: Fields, offset: u64) -> Instruction
     ensures { λ r. ⌜ r ≡ jalrOf f offset ⌝ }

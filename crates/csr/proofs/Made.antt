@@ -9,7 +9,8 @@ use Rattle.word.proofs.Bools.{both}
 use Rattle.word.specs.Row.{legalOf, bitsOf, allFit, allSeen, wellMade}
 use Rattle.csr.specs.Row.{rowOf, isView}
 use Rattle.csr.specs.declared.Csr.{Csr}
-use Rattle.csr.specs.declared.Csr.the-variants.{Ssp, Sstatus, Stvec, Senvcfg, Sscratch, Sepc, Scause, Stval, Satp, Mstatus, Medeleg, Mtvec, Menvcfg, Mscratch, Mepc, Mcause, Mtval, Mseccfg}
+use Rattle.csr.specs.declared.Csr.the-variants.{Ssp, Sstatus, Stvec, Senvcfg, Sscratch, Sepc, Scause, Stval, Satp, Mstatus, Medeleg, Mtvec}
+use Rattle.csr.specs.declared.Csr.the-variants.{Menvcfg, Mscratch, Mepc, Mcause, Mtval, Mseccfg}
 
 pub well-made : (n : Csr) (sse : Bool) → wellMade (rowOf n sse) ≡ true
 well-made Ssp sse = refl

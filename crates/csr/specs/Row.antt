@@ -7,7 +7,8 @@ use Rattle.word.specs.Choice.{pick}
 use Rattle.word.specs.Row.{Field, Any, Only, Place, At, row}
 use Rattle.status.specs.Fields.{bit, hidden, mstatus, sstatus}
 use Rattle.csr.specs.declared.Csr.{Csr}
-use Rattle.csr.specs.declared.Csr.the-variants.{Ssp, Sstatus, Stvec, Senvcfg, Sscratch, Sepc, Scause, Stval, Satp, Mstatus, Medeleg, Mtvec, Menvcfg, Mscratch, Mepc, Mcause, Mtval, Mseccfg}
+use Rattle.csr.specs.declared.Csr.the-variants.{Ssp, Sstatus, Stvec, Senvcfg, Sscratch, Sepc, Scause, Stval, Satp, Mstatus, Medeleg, Mtvec}
+use Rattle.csr.specs.declared.Csr.the-variants.{Menvcfg, Mscratch, Mepc, Mcause, Mtval, Mseccfg}
 
 -- writable mask 0x4B3FF
 abbrev pub medeleg : List Field

@@ -37,7 +37,8 @@ module _ (pc : ℕ) (x w : List ℕ) where
 
   -- elp stays 0
   pub still : (next : ℕ) → Straight w → (w but PC ≔ pc but PC ≔ next but ELP ≔ 0) ≡ (w but PC ≔ next)
-  still next st = moved ELP 0 next (omega arith) ∙ ap (λ (l : List ℕ). l but PC ≔ next) (ap (λ (v : ℕ). w but ELP ≔ v) (sym (st .1)) ∙ set-getD w ELP 0)
+  still next st =
+      moved ELP 0 next (omega arith) ∙ ap (λ (l : List ℕ). l but PC ≔ next) (ap (λ (v : ℕ). w but ELP ≔ v) (sym (st .1)) ∙ set-getD w ELP 0)
 
   -- a CSR's word does not depend on pc: what it shows, what a write leaves, and where that is stored
   module _ (n : Csr) where

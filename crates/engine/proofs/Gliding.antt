@@ -49,7 +49,8 @@ module _ (pc : ℕ) (x w m : List ℕ) (st : Straight w) where
 
   applied : (e : Effect) (pc' : ℕ) (x' w' m' : List ℕ) → Applied e x w m pc' x' w' m' → Did e pc' x' w' m'
   applied (Write rd v next) pc' x' w' m' a = rw (a .0, a .1, a .2, a .3) (refl, ap (hart (putOf rd v x)) (set-set w PC pc next), refl, st, refl)
-  applied (Jump rd link next pad) pc' x' w' m' a = rw (a .0, a .1, a .2, a .3, a .4) (refl, ap (hart (putOf rd link x)) (still pc x w next st), refl, st, refl)
+  applied (Jump rd link next pad) pc' x' w' m' a =
+      rw (a .0, a .1, a .2, a .3, a .4) (refl, ap (hart (putOf rd link x)) (still pc x w next st), refl, st, refl)
   applied (Pad next) pc' x' w' m' a = absurd a
   applied (Store q k v next) pc' x' w' m' a = rw (a .0, a .1, a .2, a .3) (refl, ap (hart x) (set-set w PC pc next), refl, st, refl)
   applied (Push q v top next) pc' x' w' m' a = rw (a .0, a .1, a .2, a .3) (moved-ssp (Push q v top next) top next refl refl)

@@ -40,7 +40,8 @@ fn instruction(
     map: &[u64],
 ) -> Tried
     requires { ⌜ (length (now mem) ≤ 2 ^ 20) × Straight (now w) × Knows k (settingOf (now w)) × Fetches word pc (now w) (now mem) (now map) ⌝ }
-    ensures { λ r. ⌜ Turned (r .done) pc (now (x .entry)) (now (w .entry)) (now (mem .entry)) (now (map .entry)) (r .pc) (now (x .exit)) (now (w .exit)) (now (mem .exit)) ⌝ }
+    ensures { λ r. ⌜ Turned (r .done) pc (now (x .entry)) (now (w .entry)) (now (mem .entry)) (now (map .entry)) (r .pc) (now (x .exit))
+        (now (w .exit)) (now (mem .exit)) ⌝ }
 {
     let t = opcodes::word(word, x, w, pc, k, mem, map);
     if t.done {
@@ -65,8 +66,10 @@ fn turn(
     mem: &mut [u8],
     map: &[u64],
 ) -> Tried
-    requires { ⌜ (length (now mem) ≤ 2 ^ 20) × Straight (now w) × Knows k (settingOf (now w)) × Shows v (k .setting .control) (now map) (length (now mem)) ⌝ }
-    ensures { λ r. ⌜ Turned (r .done) pc (now (x .entry)) (now (w .entry)) (now (mem .entry)) (now (map .entry)) (r .pc) (now (x .exit)) (now (w .exit)) (now (mem .exit)) ⌝ }
+    requires { ⌜ (length (now mem) ≤ 2 ^ 20) × Straight (now w) × Knows k (settingOf (now w))
+        × Shows v (k .setting .control) (now map) (length (now mem)) ⌝ }
+    ensures { λ r. ⌜ Turned (r .done) pc (now (x .entry)) (now (w .entry)) (now (mem .entry)) (now (map .entry)) (r .pc) (now (x .exit))
+        (now (w .exit)) (now (mem .exit)) ⌝ }
 {
     let f = opcodes::fetch(v, pc, mem);
     if f.seen {
@@ -86,8 +89,10 @@ fn stretch(
     map: &[u64],
     budget: u64,
 ) -> Glided
-    requires { ⌜ (length (now mem) ≤ 2 ^ 20) × Straight (now w) × Knows k (settingOf (now w)) × Shows v (k .setting .control) (now map) (length (now mem)) ⌝ }
-    ensures steps { λ r. ⌜ Glides budget start (now (x .entry)) (now (w .entry)) (now (mem .entry)) (now (map .entry)) r (now (x .exit)) (now (w .exit)) (now (mem .exit)) ⌝ }
+    requires { ⌜ (length (now mem) ≤ 2 ^ 20) × Straight (now w) × Knows k (settingOf (now w))
+        × Shows v (k .setting .control) (now map) (length (now mem)) ⌝ }
+    ensures steps { λ r. ⌜ Glides budget start (now (x .entry)) (now (w .entry)) (now (mem .entry)) (now (map .entry)) r (now (x .exit))
+        (now (w .exit)) (now (mem .exit)) ⌝ }
     ensures words { λ _. ⌜ Straight (now (w .exit)) × (settingOf (now (w .exit)) ≡ settingOf (now (w .entry))) ⌝ }
 {
     let mut pc = start;
@@ -115,7 +120,8 @@ fn steps(
     budget: u64,
 ) -> Glided
     requires { ⌜ (length (now mem) ≤ 2 ^ 20) × Straight (now w) × Knows k (settingOf (now w)) ⌝ }
-    ensures steps { λ r. ⌜ Glides budget start (now (x .entry)) (now (w .entry)) (now (mem .entry)) (now (map .entry)) r (now (x .exit)) (now (w .exit)) (now (mem .exit)) ⌝ }
+    ensures steps { λ r. ⌜ Glides budget start (now (x .entry)) (now (w .entry)) (now (mem .entry)) (now (map .entry)) r (now (x .exit))
+        (now (w .exit)) (now (mem .exit)) ⌝ }
     ensures words { λ _. ⌜ Straight (now (w .exit)) × (settingOf (now (w .exit)) ≡ settingOf (now (w .entry))) ⌝ }
 {
     let mut pc = start;
@@ -157,7 +163,8 @@ pub fn glide(
     budget: u64,
 ) -> u64
     requires { ⌜ (length (now mem) ≤ 2 ^ 20) × Knows k (settingOf (now w)) ⌝ }
-    ensures steps { λ r. ⌜ Midway (runFrom source budget (hart (now (x .entry)) (now (w .entry))) (now (mem .entry)) (now (map .entry))) budget r source (hart (now (x .exit)) (now (w .exit))) (now (mem .exit)) (now (map .entry)) ⌝ }
+    ensures steps { λ r. ⌜ Midway (runFrom source budget (hart (now (x .entry)) (now (w .entry))) (now (mem .entry)) (now (map .entry))) budget r
+        source (hart (now (x .exit)) (now (w .exit))) (now (mem .exit)) (now (map .entry)) ⌝ }
     ensures setting { λ _. ⌜ settingOf (now (w .exit)) ≡ settingOf (now (w .entry)) ⌝ }
 {
     sized(*w);

@@ -56,8 +56,10 @@ pub fn run(
 ) -> Told
     requires { ⌜ length (now mem) ≤ 2 ^ 20 ⌝ }
     ensures answer { λ r. ⌜ r ≡ toldOf (runFrom source budget (hart (now (x .entry)) (now (w .entry))) (now (mem .entry)) (now (map .entry))) ⌝ }
-    ensures hart { λ _. ⌜ hart (now (x .exit)) (now (w .exit)) ≡ runFrom source budget (hart (now (x .entry)) (now (w .entry))) (now (mem .entry)) (now (map .entry)) .hart ⌝ }
-    ensures memory { λ _. ⌜ now (mem .exit) ≡ runFrom source budget (hart (now (x .entry)) (now (w .entry))) (now (mem .entry)) (now (map .entry)) .memory ⌝ }
+    ensures hart { λ _. ⌜ hart (now (x .exit)) (now (w .exit))
+        ≡ runFrom source budget (hart (now (x .entry)) (now (w .entry))) (now (mem .entry)) (now (map .entry)) .hart ⌝ }
+    ensures memory { λ _. ⌜ now (mem .exit) ≡ runFrom source budget (hart (now (x .entry)) (now (w .entry))) (now (mem .entry))
+        (now (map .entry)) .memory ⌝ }
 {
     let mut from = source;
     let mut left = budget;

@@ -23,6 +23,8 @@ pub decoded : (w f : ℕ) → 0 < f → w / 4096 % 8 * 128 + w % 128 ≡ f * 128
 unfolding decodeOf systemOf csrOf
 decoded w f p e =
     let (funct3, op) = digits (w / 4096 % 8) (w % 128) f (omega arith) e in
-    let whole : Missed w (systems w (fieldsOf w)) (Unit {0}) =
-    ((((tt, another w 0x00000073 f p funct3 refl), another w 0x00100073 f p funct3 refl), another w 0x10200073 f p funct3 refl), another w 0x30200073 f p funct3 refl) in
+    let whole : Missed w (systems w (fieldsOf w)) (Unit {0}) = (
+      (((tt, another w 0x00000073 f p funct3 refl), another w 0x00100073 f p funct3 refl), another w 0x10200073 f p funct3 refl),
+      another w 0x30200073 f p funct3 refl,
+    ) in
     sym (hit (opcodes w (fieldsOf w)) op) ∙ sym (missed w (systems w (fieldsOf w)) whole) ∙ sym (hit (csrs w (fieldsOf w)) funct3)

@@ -102,7 +102,8 @@ fn csr(
 // A word whose opcode and funct3 are those of CSR operation o with a register.
 fn csr_word(w: u32, x: &mut [u64; 32], rest: &mut [u64; COUNT], o: CsrOperation) -> bool
     ensures { λ r. ⌜ ((next : ℕ) (permitted : Bool)
-        → Handles r (csrOf o (Register (bits w 19 15)) (bits w 11 7) (bits w 31 20) w (now (x .entry)) next (modeOf (MODE of now (rest .entry))) permitted)
+        → Handles r (csrOf o (Register (bits w 19 15)) (bits w 11 7) (bits w 31 20) w (now (x .entry)) next
+        (modeOf (MODE of now (rest .entry))) permitted)
         (now (x .entry)) (now (rest .entry)) next (now (x .exit)) (now (rest .exit))) ⌝ }
 {
     let address = (w / 1048576 % 4096) as u16;

@@ -30,7 +30,8 @@ use Rattle.hart.specs.declared.methods.Stepped.{Stepped}
 -- a CSR instruction: rd takes what the CSR showed
 unfoldable pub csrOf : CsrOperation → Csr → (writes : Bool) → (v rd next : ℕ) → Hart → Hart
 csrOf o n writes v rd next h =
-    hart (putOf rd (shownOf n (h .words)) (h .x)) (pick writes (csrWriteOf n (mergedOf o (shownOf n (h .words)) v) (h .words)) (h .words) but PC ≔ next)
+    hart (putOf rd (shownOf n (h .words)) (h .x))
+    (pick writes (csrWriteOf n (mergedOf o (shownOf n (h .words)) v) (h .words)) (h .words) but PC ≔ next)
 
 unfoldable pub wholeOf : Whole → Hart → Hart
 wholeOf (whole.Csr o n writes v rd next) h = csrOf o n writes v rd next h

@@ -26,9 +26,12 @@ pub fn one(
     map: &[u64],
 ) -> Done
     requires { ⌜ (length (now mem) ≤ 2 ^ 20) × (s ≡ settingOf (now w)) ⌝ }
-    ensures registers { λ _. ⌜ now (x .exit) ≡ stepFrom source (hart (now (x .entry)) (now (w .entry))) (now (mem .entry)) (now (map .entry)) .hart .x ⌝ }
-    ensures words { λ _. ⌜ now (w .exit) ≡ stepFrom source (hart (now (x .entry)) (now (w .entry))) (now (mem .entry)) (now (map .entry)) .hart .words ⌝ }
-    ensures memory { λ _. ⌜ now (mem .exit) ≡ stepFrom source (hart (now (x .entry)) (now (w .entry))) (now (mem .entry)) (now (map .entry)) .memory ⌝ }
+    ensures registers { λ _. ⌜ now (x .exit) ≡ stepFrom source (hart (now (x .entry)) (now (w .entry))) (now (mem .entry))
+        (now (map .entry)) .hart .x ⌝ }
+    ensures words { λ _. ⌜ now (w .exit) ≡ stepFrom source (hart (now (x .entry)) (now (w .entry))) (now (mem .entry))
+        (now (map .entry)) .hart .words ⌝ }
+    ensures memory { λ _. ⌜ now (mem .exit) ≡ stepFrom source (hart (now (x .entry)) (now (w .entry))) (now (mem .entry))
+        (now (map .entry)) .memory ⌝ }
     ensures told { λ r. ⌜ (r .trapped ≡ stepFrom source (hart (now (x .entry)) (now (w .entry))) (now (mem .entry)) (now (map .entry)) .trapped)
         × (r .cause ≡ stepFrom source (hart (now (x .entry)) (now (w .entry))) (now (mem .entry)) (now (map .entry)) .cause) ⌝ }
     ensures setting { λ r. ⌜ (r .switched ≡ false → settingOf (now (w .exit)) ≡ settingOf (now (w .entry))) ⌝ }

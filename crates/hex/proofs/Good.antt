@@ -14,7 +14,8 @@ use lib.Seq.{sets, drop-cons, getD-take, getD-drop, length-take-le}
 use Rattle.word.specs.Choice.{pick}
 use Rattle.word.proofs.Bools.{both}
 use Rattle.hex.specs.Digits.{hexPairs, total}
-use Rattle.hex.specs.Line.{bytesOf, byteOf, countOf, offsetOf, kindOf, colon, counted, shaped, wellFormed, checked, isRead, addressOf, dataOf, inside, good}
+use Rattle.hex.specs.Line.{bytesOf, byteOf, countOf, offsetOf, kindOf, colon, counted, shaped, wellFormed, checked, isRead, addressOf, dataOf}
+use Rattle.hex.specs.Line.{inside, good}
 use Rattle.hex.specs.Load.{placed}
 use Rattle.hex.specs.Inner.{sumFrom, sumOf}
 use Rattle.hex.proofs.Pairs.{length-pairs, even}
@@ -60,7 +61,8 @@ module _ (l : List ℕ) where
       ne-eqb (length (bytesOf l)) (countOf l + 5) (λ e. omega (arith, bytes-length))
 
   pub good-is : (len upper : ℕ)
-      → good len upper l ≡ eqb (sumOf l) 0 && (counted l && (shaped (kindOf l) (countOf l) (offsetOf l) && (isRead (kindOf l) && inside len (kindOf l) (countOf l) (addressOf upper l))))
+      → good len upper l ≡ eqb (sumOf l) 0 && (counted l
+      && (shaped (kindOf l) (countOf l) (offsetOf l) && (isRead (kindOf l) && inside len (kindOf l) (countOf l) (addressOf upper l))))
   unfolding good wellFormed checked sumOf sumFrom
   good-is len upper = rw zero-add (summed (colon l) (leb 11 (length l)) (hexPairs (drop 1 l)) (counted l) _ _ (total (bytesOf l) % 256) short)
 
@@ -83,7 +85,8 @@ module _ (l : List ℕ) where
   -- what is left to test of a line with the sum 0 that is as long as its count says
   module _ (z : sumOf l ≡ 0) (len upper : ℕ) where
     pub good-by : length l ≡ 2 * countOf l + 11
-        → shaped (kindOf l) (countOf l) (offsetOf l) && (isRead (kindOf l) && inside len (kindOf l) (countOf l) (upper * 65536 + offsetOf l)) ≡ good len upper l
+        → shaped (kindOf l) (countOf l) (offsetOf l) && (isRead (kindOf l) && inside len (kindOf l) (countOf l) (upper * 65536 + offsetOf l))
+        ≡ good len upper l
     unfolding addressOf
     good-by n = rw (good-is len upper, eq-eqb (sumOf l) 0 z, counted-is (paired l z .0) n)
 
@@ -124,7 +127,8 @@ module _ (l : List ℕ) (count : ℕ) (n : 2 * count + 11 ≡ length l) where
 
   -- the byte k stored, and what is left behind it
   pub fill-turn : (mem : List ℕ) (to k b : ℕ) → k < count → b ≡ byteOf l (4 + k)
-      → sets (set mem (to + k) b) (to + (k + 1)) (drop (k + 1) (take count (drop 4 (bytesOf l)))) ≡ sets mem (to + k) (drop k (take count (drop 4 (bytesOf l))))
+      → sets (set mem (to + k) b) (to + (k + 1)) (drop (k + 1) (take count (drop 4 (bytesOf l))))
+      ≡ sets mem (to + k) (drop k (take count (drop 4 (bytesOf l))))
   unfolding byteOf
   fill-turn mem to k b h e =
       let d = take count (drop 4 (bytesOf l)) in

@@ -29,7 +29,8 @@ module _ (text mem : List ℕ) where
 
   -- a text is refused, with no start address and memory as it was, or it has no bad line
   pub verdict : {A : Type 0}
-      → ((refusal line : ℕ) → (refusal ≡ 0 → ⊥) → answered refusal line noStart mem .answer ≡ loadOf text mem .answer → mem ≡ loadOf text mem .memory → A)
+      → ((refusal line : ℕ) → (refusal ≡ 0 → ⊥) → answered refusal line noStart mem .answer ≡ loadOf text mem .answer → mem
+      ≡ loadOf text mem .memory → A)
       → (refusedOf (length mem) ≡ false → Bad ≡ 0 → A) → A
   verdict f g =
       by-test (refusedOf (length mem))
@@ -52,7 +53,8 @@ module _ (text mem : List ℕ) where
       (λ e. let y = ap number (refused-2 text mem e .0) in absurd (omega arith))
       (λ e. by-test (eqb Bad 0)
       (λ z. let y = ap number (taken text mem e Bad refl (eqb-true Bad 0 z) .0) in absurd (omega arith))
-      (λ z. rw (ap (λ (x : Loaded). x .line) (refused-6 text mem e Bad refl (eqb-false Bad 0 z) .0)) at (good-before (length mem) 0 1 (linesOf text))))
+      (λ z. rw (ap (λ (x : Loaded). x .line) (refused-6 text mem e Bad refl (eqb-false Bad 0 z) .0)) at
+      (good-before (length mem) 0 1 (linesOf text))))
 
   -- an accepted text has no bad line
   module _ (h : loadOf text mem .answer .refusal ≡ 0) where
@@ -91,7 +93,8 @@ last-wins : (upper : ℕ) (front : List (List ℕ)) (l : List ℕ) (back : List 
     → byteAfter upper (front ++ l ∷ back) j old ≡ dataAt (upperAt upper front) l j
 unfolding byteAfter upperAt
 last-wins upper [] l back j old n m =
-    ap (λ (t : Bool). byteAfter (upperAfter upper l) back j (pick t (dataAt upper l j) old)) n ∙ unnamed (upperAfter upper l) back j (dataAt upper l j) m
+    ap (λ (t : Bool). byteAfter (upperAfter upper l) back j (pick t (dataAt upper l j) old)) n
+    ∙ unnamed (upperAfter upper l) back j (dataAt upper l j) m
 last-wins upper (f ∷ front) l back j old n m = last-wins (upperAfter upper f) front l back j _ n m
 
 module _ (text mem : List ℕ) (h : loadOf text mem .answer .refusal ≡ 0) where

@@ -110,7 +110,8 @@ module _ (t : List ℕ) (i : ℕ) where
   ends-crlf h c e =
       let f : getD (drop (i + 1) t) 0 0 ≡ 10 = getD-drop (i + 1) t 0 0 ∙ rw add-zero e in
       let g : i + 1 + 1 ≡ i + 2 = omega arith in
-      let k = crlf (getD t i 0) (drop (i + 1) t) (ne-eqb (getD t i 0) 10 (λ z. omega arith)) (rw (eq-eqb (getD t i 0) 13 c, eq-eqb (getD (drop (i + 1) t) 0 0) 10 f)) in
+      let k = crlf (getD t i 0) (drop (i + 1) t) (ne-eqb (getD t i 0) 10 (λ z. omega arith))
+      (rw (eq-eqb (getD t i 0) 13 c, eq-eqb (getD (drop (i + 1) t) 0 0) 10 f)) in
       ended (i + 2) (rw (at-place (omega arith)) (rw (drop-drop, g) at k)) (omega arith) (omega arith)
 
   pub ends-text : 0 < i → length t ≤ i → i ≤ length t → Ends t i i

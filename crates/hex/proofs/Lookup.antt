@@ -25,7 +25,8 @@ module _ (t : List ℕ) (k d : ℕ) (f : Filled t k) (h : k < 256) (e : d ≡ we
   high : (b : ℕ) → b < k + 1 → getD (set (set t k d) (256 + k) (d * 16)) (256 + b) 0 ≡ weightOf b * 16
   high b l =
       either b k
-      (λ m. getD-set-other (set t k d) (256 + k) (256 + b) (d * 16) 0 (λ z. omega arith) ∙ getD-set-other t k (256 + b) d 0 (λ z. omega arith) ∙ f .high b m)
+      (λ m. getD-set-other (set t k d) (256 + k) (256 + b) (d * 16) 0 (λ z. omega arith) ∙ getD-set-other t k (256 + b) d 0 (λ z. omega arith)
+      ∙ f .high b m)
       (λ m. let i : b ≡ k = omega arith in rw (i, ← e) (getD-set-same (set t k d) (256 + k) (d * 16) 0 (simp length-set (omega (arith, f .size)))))
 
   pub filled-more : Filled (set (set t k d) (256 + k) (d * 16)) (k + 1)

@@ -58,10 +58,13 @@ module _ (k l : List ℕ) (back : List (List ℕ)) (p : kindOf k ≡ 0) (q : kin
 
   start-turned : (s : Start) (front : List (List ℕ)) → lastStart s (front ++ k ∷ l ∷ back) ≡ lastStart s (front ++ l ∷ k ∷ back)
   unfolding lastStart
-  start-turned s [] = ap (λ (t : Start). lastStart t back) (data-start (startAfter s k) l q ∙ data-start s k p ∙ sym (data-start (startAfter s l) k p ∙ data-start s l q))
+  start-turned s [] =
+      ap (λ (t : Start). lastStart t back) (data-start (startAfter s k) l q ∙ data-start s k p
+      ∙ sym (data-start (startAfter s l) k p ∙ data-start s l q))
   start-turned s (f ∷ front) = start-turned (startAfter s f) front
 
-  byte-crossed : (upper j old : ℕ) → names upper k j && names upper l j ≡ false → byteAfter upper (k ∷ l ∷ back) j old ≡ byteAfter upper (l ∷ k ∷ back) j old
+  byte-crossed : (upper j old : ℕ) → names upper k j && names upper l j ≡ false → byteAfter upper (k ∷ l ∷ back) j old
+      ≡ byteAfter upper (l ∷ k ∷ back) j old
   unfolding byteAfter
   byte-crossed upper j old d =
       rw (data-upper upper k p, data-upper upper l q, data-upper upper k p)

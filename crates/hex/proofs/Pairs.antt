@@ -38,7 +38,8 @@ even (x ∷ y ∷ rest) h = let r = even rest (first-two x y rest h .2) in omega
 abbrev Pair : (v : ℕ) → (x y : ℕ) → Type 0
 Pair v x y = (v ≡ digitOf x * 16 + digitOf y) × (digitOf x < 16) × (digitOf y < 16)
 
-pair-at : (ds : List ℕ) (k : ℕ) → hexPairs ds ≡ true → 2 * k + 1 < length ds → Pair (getD (pairsOf ds) k 0) (getD ds (2 * k) 0) (getD ds (2 * k + 1) 0)
+pair-at : (ds : List ℕ) (k : ℕ) → hexPairs ds ≡ true → 2 * k + 1 < length ds
+    → Pair (getD (pairsOf ds) k 0) (getD ds (2 * k) 0) (getD ds (2 * k + 1) 0)
 unfolding pairsOf
 pair-at [] k h n = absurd (omega arith)
 pair-at (x ∷ []) k h n = absurd (omega arith)
@@ -48,7 +49,8 @@ pair-at (x ∷ y ∷ rest) (suc k) h n =
     let f : suc (suc (2 * k)) + 1 ≡ suc (suc (2 * k + 1)) = omega arith in
     rw (e, f) (pair-at rest k (first-two x y rest h .2) (omega arith))
 
-pub byte-at : (l : List ℕ) (k : ℕ) → hexPairs (drop 1 l) ≡ true → 2 * k + 2 < length l → Pair (byteOf l k) (getD l (2 * k + 1) 0) (getD l (2 * k + 2) 0)
+pub byte-at : (l : List ℕ) (k : ℕ) → hexPairs (drop 1 l) ≡ true → 2 * k + 2 < length l
+    → Pair (byteOf l k) (getD l (2 * k + 1) 0) (getD l (2 * k + 2) 0)
 unfolding byteOf
 byte-at [] k h n = absurd (omega arith)
 byte-at (c ∷ ds) k h n =

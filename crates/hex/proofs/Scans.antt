@@ -85,7 +85,8 @@ module _ (t : List ℕ) (from stop : ℕ) where
     wrong = λ z. absurd (omega arith);
   }
 
-  module _ (i s b : ℕ) (a : Along t from stop i s) (n : i < stop) (h : i + 1 < length t) (e : b ≡ weightOf (getD t i 0) * 16 + weightOf (getD t (i + 1) 0)) where
+  module _ (i s b : ℕ) (a : Along t from stop i s) (n : i < stop) (h : i + 1 < length t) (e : b ≡ weightOf (getD t i 0) * 16 + weightOf (getD t
+      (i + 1) 0)) where
     -- the first byte that is no digit
     spoilt : s < 0x10_0000 → 255 < b → stop - from ≤ length (lineAt t from) → sumFrom 0 (lineAt t from) ≡ 256
     spoilt z k l =

@@ -60,12 +60,14 @@ pub none-bad : (len upper n : ℕ) (ls : List (List ℕ)) → 0 < n → firstBad
 unfolding firstBad allGood
 none-bad len upper n [] h e = refl
 none-bad len upper n (l ∷ ls) h e =
-    step (good len upper l) (eqb (kindOf l) 1) (allGood len (upperAfter upper l) ls) (textAfter (n + 1) ls) (firstBad len (upperAfter upper l) (n + 1) ls) n h e
+    step (good len upper l) (eqb (kindOf l) 1) (allGood len (upperAfter upper l) ls) (textAfter (n + 1) ls)
+    (firstBad len (upperAfter upper l) (n + 1) ls) n h e
     (λ t. rw (no-text (n + 1) ls (omega arith) t))
     (λ t. none-bad len (upperAfter upper l) (n + 1) ls (omega arith) t)
 
 -- every line before the first bad one is good
-front : (len upper m n : ℕ) (l : List ℕ) (ls : List (List ℕ)) → good len upper l ≡ true → allGood len (upperAfter upper l) (take (m - (n + 1)) ls) ≡ true
+front : (len upper m n : ℕ) (l : List ℕ) (ls : List (List ℕ)) → good len upper l ≡ true → allGood len (upperAfter upper l) (take (m - (n + 1)) ls)
+    ≡ true
     → allGood len upper (take (m - n) (l ∷ ls)) ≡ true
 unfolding allGood
 front len upper m n l ls g h =

@@ -50,7 +50,8 @@ module _ (t : List ℕ) (at : ℕ) (len upper : ℕ) (g : good len upper (lineAt
       rw (← x, ← y, weight-is _ p, weight-is _ q) (sym e)
 
   pub count-most : countOf (lineAt t at) ≤ 255
-  count-most = let (e, p, q) = byte-at (lineAt t at) 0 (formed (lineAt t at) (well-formed len upper (lineAt t at) g) .0) (omega (arith, long)) in omega arith
+  count-most =
+      let (e, p, q) = byte-at (lineAt t at) 0 (formed (lineAt t at) (well-formed len upper (lineAt t at) g) .0) (omega (arith, long)) in omega arith
 
   -- there the line ends
   pub over : lineAt t (at + length (lineAt t at)) ≡ []

@@ -119,7 +119,10 @@ record Computed : Type 0 where
   above-other : sixth (sessionOf look hartAbove (zeroed 4096) mapAbove .answers) ≡ 1
 
 computed : Computed
-unfolding sessionOf stepFromCall refusalOf legal wordsLegal memory.refusedOf page.refusedOf page.pagesOf page.anyLarge page.riseFrom page.strictlyRise stepFrom effectOf fetchedOf arrivedOf landedOf executeOf decodeOf base.loadOf system.systemOf accessOf passedOf atOf doneOf placeOf reachedOf control.modeOf transformedOf maskOf alignedOf pagedPlaceOf plainPlaceOf throughOf page.lookupOf settleOf judgeOf insideOf withinOf settingOf controlOf shadowOn padOn modeOf memoryWith front bytesOf number loadOf storeOf extendOf trapOf trapM enterM
+unfolding sessionOf stepFromCall refusalOf legal wordsLegal memory.refusedOf page.refusedOf page.pagesOf page.anyLarge page.riseFrom
+    page.strictlyRise stepFrom effectOf fetchedOf arrivedOf landedOf executeOf decodeOf base.loadOf system.systemOf accessOf passedOf atOf doneOf
+    placeOf reachedOf control.modeOf transformedOf maskOf alignedOf pagedPlaceOf plainPlaceOf throughOf page.lookupOf settleOf judgeOf insideOf
+    withinOf settingOf controlOf shadowOn padOn modeOf memoryWith front bytesOf number loadOf storeOf extendOf trapOf trapM enterM
 computed = record {
   supervisor-one = refl;
   supervisor-other = refl;

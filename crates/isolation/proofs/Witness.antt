@@ -185,7 +185,10 @@ pub record Computed : Type 0 where
   pub pointer : planOf (Given 0x0001B303) (withReg 3 0x5000 hart₀) (memoryWith 0xAA) map₀ ≡ Trap 13 0x5000
 
 pub computed : Computed
-unfolding refusalOf legal wordsLegal memory.refusedOf page.refusedOf page.pagesOf page.anyLarge page.riseFrom page.strictlyRise effectOf fetchedOf arrivedOf landedOf executeOf decodeOf base.loadOf base.storeOf accessOf passedOf atOf doneOf placeOf reachedOf control.modeOf transformedOf maskOf alignedOf pagedPlaceOf throughOf page.lookupOf settleOf judgeOf insideOf withinOf settingOf controlOf shadowOn padOn modeOf memoryWith front bytesOf number loadOf storeOf extendOf
+unfolding refusalOf legal wordsLegal memory.refusedOf page.refusedOf page.pagesOf page.anyLarge page.riseFrom page.strictlyRise effectOf fetchedOf
+    arrivedOf landedOf executeOf decodeOf base.loadOf base.storeOf accessOf passedOf atOf doneOf placeOf reachedOf control.modeOf transformedOf
+    maskOf alignedOf pagedPlaceOf throughOf page.lookupOf settleOf judgeOf insideOf withinOf settingOf controlOf shadowOn padOn modeOf memoryWith
+    front bytesOf number loadOf storeOf extendOf
 computed = record { accepted = refl; first = refl; second = refl; third = refl; outside = refl; twice = refl; pointer = refl }
 
 -- k steps in the one memory

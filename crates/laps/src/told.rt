@@ -28,7 +28,9 @@ fn ended(right: bool, wanted: &[u64], got: &[u64]) {
     }
     print(b", but got");
     report::differences(
-        b"x0 x1 x2 x3 x4 x5 x6 x7 x8 x9 x10 x11 x12 x13 x14 x15 x16 x17 x18 x19 x20 x21 x22 x23 x24 x25 x26 x27 x28 x29 x30 x31 pc mode elp ssp stvec senvcfg sscratch sepc scause stval satp mstatus medeleg mtvec menvcfg mscratch mepc mcause mtval mseccfg runs steps trapped cause memory memory+8 memory+16 memory+24 ",
+        b"x0 x1 x2 x3 x4 x5 x6 x7 x8 x9 x10 x11 x12 x13 x14 x15 x16 x17 x18 x19 x20 x21 x22 x23 x24 x25 x26 x27 x28 x29 x30 x31 pc mode elp ssp
+            stvec senvcfg sscratch sepc scause stval satp mstatus medeleg mtvec menvcfg mscratch mepc mcause mtval mseccfg runs steps trapped cause
+                memory memory+8 memory+16 memory+24 ",
         wanted,
         got,
     );

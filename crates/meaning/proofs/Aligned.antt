@@ -18,7 +18,8 @@ use Rattle.isa.specs.declared.Access.the-variants as access
 use Rattle.isa.specs.declared.CsrOperation.{CsrOperation}
 use Rattle.isa.specs.declared.CsrSource.{CsrSource}
 use Rattle.isa.specs.declared.Instruction.{Instruction}
-use Rattle.isa.specs.declared.Instruction.the-variants.{Illegal, Lui, Auipc, Jal, Jalr, Branch, Memory, OpImm, OpImm32, Op, Op32, Fence, Ecall, Ebreak, Sret, Mret, Csr, ReadSsp, MopR, MopRr}
+use Rattle.isa.specs.declared.Instruction.the-variants.{Illegal, Lui, Auipc, Jal, Jalr, Branch, Memory, OpImm, OpImm32, Op, Op32, Fence, Ecall}
+use Rattle.isa.specs.declared.Instruction.the-variants.{Ebreak, Sret, Mret, Csr, ReadSsp, MopR, MopRr}
 use Rattle.isa.specs.declared.Mode.{Mode}
 use Rattle.isa.specs.declared.Mode.the-variants.{User, Supervisor, Machine}
 use Rattle.address.specs.Access.{kindOf}
@@ -116,7 +117,8 @@ module _ (a b ssp next : ℕ) (m : List ℕ) (p : ssp % 8 ≡ 0) (n : next % 4 �
   passed-aligned : (g : Gate) (k : Access) (word rd off : ℕ) (s : Setting) (map : List ℕ)
       → Aligned (passedOf g k word rd a b off ssp next s m map)
   unfolding passedOf
-  passed-aligned gate.Open k word rd off s map = at-aligned k (placeOf (s .control) (kindOf k) (widthOf k) (addressOf k (sumOf a off) ssp) map (length m)) rd
+  passed-aligned gate.Open k word rd off s map =
+      at-aligned k (placeOf (s .control) (kindOf k) (widthOf k) (addressOf k (sumOf a off) ssp) map (length m)) rd
   passed-aligned gate.Off k word rd off s map = n
   passed-aligned gate.Illegal k word rd off s map = tt
 

@@ -16,7 +16,8 @@ use Rattle.isa.specs.declared.Access.the-variants as access
 use Rattle.isa.specs.declared.CsrOperation.{CsrOperation}
 use Rattle.isa.specs.declared.CsrSource.{CsrSource}
 use Rattle.isa.specs.declared.Instruction.{Instruction}
-use Rattle.isa.specs.declared.Instruction.the-variants.{Illegal, Lui, Auipc, Jal, Jalr, Branch, Memory, OpImm, OpImm32, Op, Op32, Fence, Ecall, Ebreak, Sret, Mret, Csr, ReadSsp, MopR, MopRr}
+use Rattle.isa.specs.declared.Instruction.the-variants.{Illegal, Lui, Auipc, Jal, Jalr, Branch, Memory, OpImm, OpImm32, Op, Op32, Fence, Ecall}
+use Rattle.isa.specs.declared.Instruction.the-variants.{Ebreak, Sret, Mret, Csr, ReadSsp, MopR, MopRr}
 use Rattle.isa.specs.declared.Mode.{Mode}
 use Rattle.isa.specs.declared.Mode.the-variants.{User, Supervisor, Machine}
 use Rattle.address.specs.Access.{kindOf}
@@ -72,12 +73,14 @@ sret-stays User word len = omega arith
 sret-stays Supervisor word len = omega arith
 sret-stays Machine word len = omega arith
 
-reached-stays : (r : Reached) (o : CsrOperation) (source : CsrSource) (rd word : ℕ) (x : List ℕ) (next len : ℕ) → Stays (reachedOf r o source rd word x next) len
+reached-stays : (r : Reached) (o : CsrOperation) (source : CsrSource) (rd word : ℕ) (x : List ℕ) (next len : ℕ)
+    → Stays (reachedOf r o source rd word x next) len
 unfolding reachedOf
 reached-stays (reached.To n) o source rd word x next len = omega arith
 reached-stays reached.Illegal o source rd word x next len = omega arith
 
-done-stays : (k : Access) (q : Physical) (rd a b ssp next : ℕ) (m : List ℕ) → Within (length m) (widthOf k) (q .0) → Stays (doneOf k q rd a b ssp next m) (length m)
+done-stays : (k : Access) (q : Physical) (rd a b ssp next : ℕ) (m : List ℕ) → Within (length m) (widthOf k) (q .0)
+    → Stays (doneOf k q rd a b ssp next m) (length m)
 unfolding doneOf poppedOf
 done-stays (access.Load w sign) q rd a b ssp next m h = omega arith
 done-stays (access.Store w) q rd a b ssp next m h = h
@@ -95,7 +98,8 @@ at-stays k (Fault cause tval) rd a b ssp next m h = omega arith
 passed-stays : (g : Gate) (k : Access) (word rd a b off ssp next : ℕ) (s : Setting) (m map : List ℕ)
     → Stays (passedOf g k word rd a b off ssp next s m map) (length m)
 unfolding passedOf
-passed-stays gate.Open k word rd a b off ssp next s m map = at-stays k _ rd a b ssp next m (place-within (s .control) (kindOf k) (widthOf k) (addressOf k (sumOf a off) ssp) map (length m))
+passed-stays gate.Open k word rd a b off ssp next s m map =
+    at-stays k _ rd a b ssp next m (place-within (s .control) (kindOf k) (widthOf k) (addressOf k (sumOf a off) ssp) map (length m))
 passed-stays gate.Off k word rd a b off ssp next s m map = omega arith
 passed-stays gate.Illegal k word rd a b off ssp next s m map = omega arith
 
@@ -108,7 +112,8 @@ module _ (x : List ℕ) (pc ssp : ℕ) (s : Setting) (m map : List ℕ) where
   execute-stays word (Jal rd off) = jal-stays rd _ _ (length m)
   execute-stays word (Jalr rd rs1 off) = jalr-stays rd rs1 _ _ (s .pad) (length m)
   execute-stays word (Branch k rs1 rs2 off) = branch-stays (conditionOf k (regOf x rs1) (regOf x rs2)) _ _ (length m)
-  execute-stays word (Memory k rd rs1 rs2 off) = passed-stays (gateOf k (s .shadow) (s .permitted)) k word rd (regOf x rs1) (regOf x rs2) off ssp _ s m map
+  execute-stays word (Memory k rd rs1 rs2 off) =
+      passed-stays (gateOf k (s .shadow) (s .permitted)) k word rd (regOf x rs1) (regOf x rs2) off ssp _ s m map
   execute-stays word (OpImm o rd rs1 v) = omega arith
   execute-stays word (OpImm32 o rd rs1 v) = omega arith
   execute-stays word (Op o rd rs1 rs2) = omega arith

@@ -6,7 +6,8 @@ use Prim.Native.Nat.{ℕ}
 use Rattle.word.specs.Choice.{pick}
 use Rattle.word.specs.Sum.{sumOf}
 use Rattle.isa.specs.declared.Instruction.{Instruction}
-use Rattle.isa.specs.declared.Instruction.the-variants.{Illegal, Lui, Auipc, Jal, Jalr, Branch, Memory, OpImm, OpImm32, Op, Op32, Fence, Ecall, Ebreak, Sret, Mret, Csr, ReadSsp, MopR, MopRr}
+use Rattle.isa.specs.declared.Instruction.the-variants.{Illegal, Lui, Auipc, Jal, Jalr, Branch, Memory, OpImm, OpImm32, Op, Op32, Fence, Ecall}
+use Rattle.isa.specs.declared.Instruction.the-variants.{Ebreak, Sret, Mret, Csr, ReadSsp, MopR, MopRr}
 use Rattle.rights.specs.Exception.{illegalOf, breakpointOf, callOf}
 use Rattle.transfer.specs.Access.{accessOf}
 use Rattle.effect.specs.Compute.{operationOf, wordOperationOf, conditionOf}

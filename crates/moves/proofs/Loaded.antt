@@ -39,7 +39,8 @@ loads-at f off n sign a m q at w pc ssp x map s flat sum =
     ∙ ap (λ (b : ℕ). flatPlaceOf kind.Load n b (length m)) (sym sum) ∙ at in
     rw there
 
-pub load-told : (t : Value) (v : ℕ) → t ≡ record { known = true; value = v } → (f : Fields) (off : ℕ) (n : Width) (sign : Bool) (a : ℕ) (m : List ℕ) (q : Physical)
+pub load-told : (t : Value) (v : ℕ) → t ≡ record { known = true; value = v }
+    → (f : Fields) (off : ℕ) (n : Width) (sign : Bool) (a : ℕ) (m : List ℕ) (q : Physical)
     → flatPlaceOf kind.Load n a (length m) ≡ At q → v ≡ extendOf n sign (readOf m q n)
     → Loads (t .known) (Memory (Load n sign) (f .rd) (f .rs1) 0 off) f off a m (t .value)
 load-told t v h f off n sign a m q at e = rw (h, e) (loads-at f off n sign a m q at)

@@ -57,7 +57,9 @@ fn load_at(
     map: &[u64],
 ) -> Tried
     requires { ⌜ length (now mem) ≤ 2 ^ 20 ⌝ }
-    ensures { λ r. ⌜ ((rest : List ℕ) → Does (r .done) (atOf (access.Load n sign) (placeOf c kind.Load n a (now (map .entry)) (length (now (mem .entry)))) rd 0 0 0 (nextOf pc) (now (mem .entry))) (now (x .entry)) rest (now (mem .entry)) (r .pc) (now (x .exit)) rest (now (mem .entry))) ⌝ }
+    ensures { λ r. ⌜ ((rest : List ℕ) → Does (r .done) (atOf (access.Load n sign) (placeOf c kind.Load n a (now (map .entry))
+        (length (now (mem .entry)))) rd 0 0 0 (nextOf pc) (now (mem .entry))) (now (x .entry)) rest (now (mem .entry)) (r .pc) (now (x .exit)) rest
+        (now (mem .entry))) ⌝ }
 {
     match steps::translate(c, Kind::Load, n, Virtual(a), map, mem) {
         Place::At(q) => {
@@ -71,7 +73,8 @@ fn load_at(
 // What a load from address a puts into its register, where loads are neither masked nor translated.
 fn flat_load(n: Width, sign: bool, a: u64, mem: &[u8]) -> Value
     requires { ⌜ length (now mem) ≤ 2 ^ 20 ⌝ }
-    ensures { λ r. ⌜ ((f : Fields) (off : ℕ) → Loads (r .known) (Memory (access.Load n sign) (f .rd) (f .rs1) 0 off) f off a (now (mem .entry)) (r .value)) ⌝ }
+    ensures { λ r. ⌜ ((f : Fields) (off : ℕ) → Loads (r .known) (Memory (access.Load n sign) (f .rd) (f .rs1) 0 off) f off a (now (mem .entry))
+        (r .value)) ⌝ }
 {
     match steps::plainly(Kind::Load, n, Virtual(a), mem) {
         Place::At(q) => value::told(memory::extend(n, sign, memory::load(mem, q.index(), n))),
@@ -100,7 +103,9 @@ fn flat_row(f: Fields, a: u64, mem: &[u8]) -> Value
 // LOAD, where loads are neither masked nor translated.
 fn load_flat(w: u32, x: &mut [u64; 32], pc: u64, mem: &[u8]) -> Tried
     requires { ⌜ length (now mem) ≤ 2 ^ 20 ⌝ }
-    ensures { λ r. ⌜ ((ssp : ℕ) (s : setting.Setting) (rest map : List ℕ) → flatOf (s .control) ≡ true → Does (r .done) (executeOf (loadOf (fieldsOf w) (immI w)) w (now (x .entry)) pc ssp s (now (mem .entry)) map) (now (x .entry)) rest (now (mem .entry)) (r .pc) (now (x .exit)) rest (now (mem .entry))) ⌝ }
+    ensures { λ r. ⌜ ((ssp : ℕ) (s : setting.Setting) (rest map : List ℕ) → flatOf (s .control) ≡ true
+        → Does (r .done) (executeOf (loadOf (fieldsOf w) (immI w)) w (now (x .entry)) pc ssp s (now (mem .entry)) map) (now (x .entry)) rest
+        (now (mem .entry)) (r .pc) (now (x .exit)) rest (now (mem .entry))) ⌝ }
 {
     let f = field::split(w);
     let v = flat_row(f, sum::sum(reg(x, f.rs1), immediate::imm_i(w)), mem);
@@ -112,7 +117,8 @@ fn load_flat(w: u32, x: &mut [u64; 32], pc: u64, mem: &[u8]) -> Tried
 
 pub fn load(w: u32, x: &mut [u64; 32], pc: u64, k: Context, mem: &[u8], map: &[u64]) -> Tried
     requires { ⌜ (length (now mem) ≤ 2 ^ 20) × (k .flat ≡ flatOf (k .setting .control)) ⌝ }
-    ensures { λ r. ⌜ ((ssp : ℕ) (rest : List ℕ) → Does (r .done) (executeOf (loadOf (fieldsOf w) (immI w)) w (now (x .entry)) pc ssp (k .setting) (now (mem .entry)) (now (map .entry))) (now (x .entry)) rest (now (mem .entry)) (r .pc) (now (x .exit)) rest (now (mem .entry))) ⌝ }
+    ensures { λ r. ⌜ ((ssp : ℕ) (rest : List ℕ) → Does (r .done) (executeOf (loadOf (fieldsOf w) (immI w)) w (now (x .entry)) pc ssp (k .setting)
+        (now (mem .entry)) (now (map .entry))) (now (x .entry)) rest (now (mem .entry)) (r .pc) (now (x .exit)) rest (now (mem .entry))) ⌝ }
 {
     if k.flat {
         return load_flat(w, x, pc, mem);
@@ -142,7 +148,9 @@ fn store_at(
     map: &[u64],
 ) -> Tried
     requires { ⌜ (length (now mem) ≤ 2 ^ 20) × (flat ≡ flatOf c) ⌝ }
-    ensures { λ r. ⌜ ((x rest : List ℕ) → Does (r .done) (atOf (access.Store n) (placeOf c kind.Store n a (now (map .entry)) (length (now (mem .entry)))) 0 0 v 0 (nextOf pc) (now (mem .entry))) x rest (now (mem .entry)) (r .pc) x rest (now (mem .exit))) ⌝ }
+    ensures { λ r. ⌜ ((x rest : List ℕ) → Does (r .done) (atOf (access.Store n)
+        (placeOf c kind.Store n a (now (map .entry)) (length (now (mem .entry)))) 0 0 v 0 (nextOf pc) (now (mem .entry))) x rest (now (mem .entry))
+        (r .pc) x rest (now (mem .exit))) ⌝ }
 {
     match steps::quick_data(flat, c, Kind::Store, n, Virtual(a), map, mem) {
         Place::At(q) => {
@@ -158,7 +166,8 @@ fn store_at(
 
 pub fn store(w: u32, x: &[u64; 32], pc: u64, k: Context, mem: &mut [u8], map: &[u64]) -> Tried
     requires { ⌜ (length (now mem) ≤ 2 ^ 20) × (k .flat ≡ flatOf (k .setting .control)) ⌝ }
-    ensures { λ r. ⌜ ((ssp : ℕ) (rest : List ℕ) → Does (r .done) (executeOf (storeOf (fieldsOf w) (immS w)) w (now (x .entry)) pc ssp (k .setting) (now (mem .entry)) (now (map .entry))) (now (x .entry)) rest (now (mem .entry)) (r .pc) (now (x .entry)) rest (now (mem .exit))) ⌝ }
+    ensures { λ r. ⌜ ((ssp : ℕ) (rest : List ℕ) → Does (r .done) (executeOf (storeOf (fieldsOf w) (immS w)) w (now (x .entry)) pc ssp (k .setting)
+        (now (mem .entry)) (now (map .entry))) (now (x .entry)) rest (now (mem .entry)) (r .pc) (now (x .entry)) rest (now (mem .exit))) ⌝ }
 {
     let flat = k.flat;
     let c = k.setting.control;
@@ -177,7 +186,9 @@ pub fn store(w: u32, x: &[u64; 32], pc: u64, k: Context, mem: &mut [u8], map: &[
 // A push of v: to ssp - 8, which is then ssp.
 fn push(v: u64, pc: u64, rest: &mut [u64; COUNT], c: Control, mem: &mut [u8], map: &[u64]) -> Tried
     requires { ⌜ length (now mem) ≤ 2 ^ 20 ⌝ }
-    ensures { λ r. ⌜ ((x : List ℕ) → Does (r .done) (atOf access.Push (placeOf c kind.Push Double (pushOf (SSP of now (rest .entry))) (now (map .entry)) (length (now (mem .entry)))) 0 0 v (SSP of now (rest .entry)) (nextOf pc) (now (mem .entry))) x (now (rest .entry)) (now (mem .entry)) (r .pc) x (now (rest .exit)) (now (mem .exit))) ⌝ }
+    ensures { λ r. ⌜ ((x : List ℕ) → Does (r .done) (atOf access.Push (placeOf c kind.Push Double (pushOf (SSP of now (rest .entry)))
+        (now (map .entry)) (length (now (mem .entry)))) 0 0 v (SSP of now (rest .entry)) (nextOf pc) (now (mem .entry))) x (now (rest .entry))
+        (now (mem .entry)) (r .pc) x (now (rest .exit)) (now (mem .exit))) ⌝ }
 {
     let top = sum::difference(rest[SSP], 8);
     match steps::translate(c, Kind::Push, Width::Double, Virtual(top), map, mem) {
@@ -196,7 +207,9 @@ fn push(v: u64, pc: u64, rest: &mut [u64; COUNT], c: Control, mem: &mut [u8], ma
 // A pop-check of v: at ssp, which goes up by 8 where v is found.
 fn pop(v: u64, pc: u64, rest: &mut [u64; COUNT], c: Control, mem: &[u8], map: &[u64]) -> Tried
     requires { ⌜ length (now mem) ≤ 2 ^ 20 ⌝ }
-    ensures { λ r. ⌜ ((x : List ℕ) → Does (r .done) (atOf access.Pop (placeOf c kind.Pop Double (SSP of now (rest .entry)) (now (map .entry)) (length (now (mem .entry)))) 0 v 0 (SSP of now (rest .entry)) (nextOf pc) (now (mem .entry))) x (now (rest .entry)) (now (mem .entry)) (r .pc) x (now (rest .exit)) (now (mem .entry))) ⌝ }
+    ensures { λ r. ⌜ ((x : List ℕ) → Does (r .done) (atOf access.Pop (placeOf c kind.Pop Double (SSP of now (rest .entry)) (now (map .entry))
+        (length (now (mem .entry)))) 0 v 0 (SSP of now (rest .entry)) (nextOf pc) (now (mem .entry))) x (now (rest .entry)) (now (mem .entry))
+        (r .pc) x (now (rest .exit)) (now (mem .entry))) ⌝ }
 {
     let ssp = rest[SSP];
     match steps::translate(c, Kind::Pop, Width::Double, Virtual(ssp), map, mem) {
@@ -226,7 +239,9 @@ pub fn shadow(
     map: &[u64],
 ) -> Tried
     requires { ⌜ length (now mem) ≤ 2 ^ 20 ⌝ }
-    ensures { λ r. ⌜ Does (r .done) (executeOf (systemOf w (fieldsOf w)) w (now (x .entry)) pc (SSP of now (rest .entry)) (k .setting) (now (mem .entry)) (now (map .entry))) (now (x .entry)) (now (rest .entry)) (now (mem .entry)) (r .pc) (now (x .entry)) (now (rest .exit)) (now (mem .exit)) ⌝ }
+    ensures { λ r. ⌜ Does (r .done) (executeOf (systemOf w (fieldsOf w)) w (now (x .entry)) pc (SSP of now (rest .entry)) (k .setting)
+        (now (mem .entry)) (now (map .entry))) (now (x .entry)) (now (rest .entry)) (now (mem .entry)) (r .pc) (now (x .entry)) (now (rest .exit))
+        (now (mem .exit)) ⌝ }
 {
     let c = k.setting.control;
     if k.setting.shadow {

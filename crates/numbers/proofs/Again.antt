@@ -9,10 +9,12 @@ use Rattle.word.proofs.Tables.{hit}
 use Rattle.isa.specs.declared.Access.{Access}
 use Rattle.isa.specs.declared.Access.the-variants.{Load, Store, Push, Pop, Swap}
 use Rattle.isa.specs.declared.Instruction.{Instruction}
-use Rattle.isa.specs.declared.Instruction.the-variants.{Illegal, Lui, Auipc, Jal, Jalr, Branch, Memory, OpImm, OpImm32, Op, Op32, Fence, Ecall, Ebreak, Sret, Mret, Csr, ReadSsp, MopR, MopRr}
+use Rattle.isa.specs.declared.Instruction.the-variants.{Illegal, Lui, Auipc, Jal, Jalr, Branch, Memory, OpImm, OpImm32, Op, Op32, Fence, Ecall}
+use Rattle.isa.specs.declared.Instruction.the-variants.{Ebreak, Sret, Mret, Csr, ReadSsp, MopR, MopRr}
 use Rattle.numbers.specs.declared.Eight.{Eight}
 use Rattle.numbers.specs.Numbers.{flagOf, numbersOf}
-use Rattle.numbers.proofs.Keys.{conditionAt, condition-again, operationAt, operation-again, wordOperationAt, word-operation-again, widthAt, width-again, loadAt, load-again, swapAt, swap-again, csrAt, csr-again}
+use Rattle.numbers.proofs.Keys.{conditionAt, condition-again, operationAt, operation-again, wordOperationAt, word-operation-again, widthAt}
+use Rattle.numbers.proofs.Keys.{width-again, loadAt, load-again, swapAt, swap-again, csrAt, csr-again}
 
 flag-again : (b : Bool) → eqb (flagOf b) 1 ≡ b
 flag-again true = refl

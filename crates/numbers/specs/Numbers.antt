@@ -7,7 +7,8 @@ use Rattle.isa.specs.declared.Access.the-variants.{Load, Store, Push, Pop, Swap
 use Rattle.isa.specs.declared.CsrSource.{CsrSource}
 use Rattle.isa.specs.declared.CsrSource.the-variants.{Register, Immediate}
 use Rattle.isa.specs.declared.Instruction.{Instruction}
-use Rattle.isa.specs.declared.Instruction.the-variants.{Illegal, Lui, Auipc, Jal, Jalr, Branch, Memory, OpImm, OpImm32, Op, Op32, Fence, Ecall, Ebreak, Sret, Mret, Csr, ReadSsp, MopR, MopRr}
+use Rattle.isa.specs.declared.Instruction.the-variants.{Illegal, Lui, Auipc, Jal, Jalr, Branch, Memory, OpImm, OpImm32, Op, Op32, Fence, Ecall}
+use Rattle.isa.specs.declared.Instruction.the-variants.{Ebreak, Sret, Mret, Csr, ReadSsp, MopR, MopRr}
 use Rattle.numbers.specs.declared.Eight.{Eight}
 use Rattle.numbers.specs.Key.{conditionKey, operationKey, wordOperationKey, widthKey, loadKey, swapKey, csrKey}
 

@@ -31,7 +31,8 @@ use Rattle.address.specs.Cause.{misalignedOf, accessFaultOf, pageFaultOf}
 use Rattle.address.specs.Control.{modeOf, pagedOf, regimeOf}
 use Rattle.address.specs.Mask.{transformedOf}
 use Rattle.address.specs.declared.control.Control.{Control}
-use Rattle.place.specs.Place.{base, withinOf, Within, insideOf, canonicalOf, pageNumber, physicalOf, settleOf, throughOf, pagedPlaceOf, plainPlaceOf, reachedOf, placeOf}
+use Rattle.place.specs.Place.{base, withinOf, Within, insideOf, canonicalOf, pageNumber, physicalOf, settleOf, throughOf, pagedPlaceOf}
+use Rattle.place.specs.Place.{plainPlaceOf, reachedOf, placeOf}
 use Rattle.place.specs.declared.Physical.{Physical}
 use Rattle.place.specs.declared.Place.the-variants.{At, Fault}
 use Rattle.place.specs.declared.Place.{Place}

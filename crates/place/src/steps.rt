@@ -27,7 +27,8 @@ ghost use Rattle.page.specs.Kinds.{isFetch, isShadow};
 ghost use Rattle.page.specs.Map.{lookupOf};
 ghost use Rattle.address.specs.Control.{flatOf};
 ghost use Rattle.word.specs.Choice.{pick};
-ghost use Rattle.place.specs.Place.{withinOf, insideOf, canonicalOf, pageNumber, physicalOf, settleOf, throughOf, pagedPlaceOf, plainPlaceOf, placeOf, flatPlaceOf};
+ghost use Rattle.place.specs.Place.{withinOf, insideOf, canonicalOf, pageNumber, physicalOf, settleOf, throughOf, pagedPlaceOf, plainPlaceOf};
+ghost use Rattle.place.specs.Place.{placeOf, flatPlaceOf};
 
 // Step 9's test: all n bytes from p on lie in memory of this length.
 fn within(len: u64, p: u64, n: u64) -> bool

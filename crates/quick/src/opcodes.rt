@@ -31,7 +31,8 @@ pub struct Seen {
 // whole way fetches there.
 pub fn fetch(v: Window, pc: u64, mem: &[u8]) -> Seen
     requires { ⌜ (length (now mem) ≤ 2 ^ 20) × (v .at + v .span ≤ length (now mem) - 3) ⌝ }
-    ensures { λ r. ⌜ ((c : Control) (map : List ℕ) → Shows v c map (length (now (mem .entry))) → Sees r (fetchedOf Fetch c pc (now (mem .entry)) map)) ⌝ }
+    ensures { λ r. ⌜ ((c : Control) (map : List ℕ) → Shows v c map (length (now (mem .entry)))
+        → Sees r (fetchedOf Fetch c pc (now (mem .entry)) map)) ⌝ }
 {
     let d = sum::difference(pc, v.low);
     if pc % 4 == 0 {
@@ -59,7 +60,8 @@ pub fn word(
     map: &[u64],
 ) -> Tried
     requires { ⌜ (length (now mem) ≤ 2 ^ 20) × (k .flat ≡ flatOf (k .setting .control)) ⌝ }
-    ensures { λ r. ⌜ Does (r .done) (executeOf (decodeOf w) w (now (x .entry)) pc (SSP of now (rest .entry)) (k .setting) (now (mem .entry)) (now (map .entry))) (now (x .entry)) (now (rest .entry)) (now (mem .entry)) (r .pc) (now (x .exit)) (now (rest .exit)) (now (mem .exit)) ⌝ }
+    ensures { λ r. ⌜ Does (r .done) (executeOf (decodeOf w) w (now (x .entry)) pc (SSP of now (rest .entry)) (k .setting) (now (mem .entry))
+        (now (map .entry))) (now (x .entry)) (now (rest .entry)) (now (mem .entry)) (r .pc) (now (x .exit)) (now (rest .exit)) (now (mem .exit)) ⌝ }
 {
     match w % 128 {
         0b0110111 => compute::lui(w, x, pc),

@@ -8,7 +8,8 @@ use Rattle.word.proofs.Tables.{checked}
 use Rattle.isa.specs.declared.Mode.the-variants.{User}
 use Rattle.rights.specs.Reach.{addresses, below, reachOf}
 use Rattle.csr.specs.declared.Csr.{Csr}
-use Rattle.csr.specs.declared.Csr.the-variants.{Ssp, Sstatus, Stvec, Senvcfg, Sscratch, Sepc, Scause, Stval, Satp, Mstatus, Medeleg, Mtvec, Menvcfg, Mscratch, Mepc, Mcause, Mtval, Mseccfg}
+use Rattle.csr.specs.declared.Csr.the-variants.{Ssp, Sstatus, Stvec, Senvcfg, Sscratch, Sepc, Scause, Stval, Satp, Mstatus, Medeleg, Mtvec, Menvcfg}
+use Rattle.csr.specs.declared.Csr.the-variants.{Mscratch, Mepc, Mcause, Mtval, Mseccfg}
 use Rattle.rights.specs.declared.reach.Reached.{Reached}
 use Rattle.rights.specs.declared.reach.Reached.the-variants.{To, Illegal}
 

@@ -6,7 +6,8 @@ use Rattle.word.specs.Choice.{pick, Table, _⇒_¦_, otherwise, look}
 use Rattle.word.specs.Field.{bits}
 use Rattle.isa.specs.declared.Mode.{Mode}
 use Rattle.status.specs.Mode.{numberOf}
-use Rattle.csr.specs.declared.Csr.the-variants.{Ssp, Sstatus, Stvec, Senvcfg, Sscratch, Sepc, Scause, Stval, Satp, Mstatus, Medeleg, Mtvec, Menvcfg, Mscratch, Mepc, Mcause, Mtval, Mseccfg}
+use Rattle.csr.specs.declared.Csr.the-variants.{Ssp, Sstatus, Stvec, Senvcfg, Sscratch, Sepc, Scause, Stval, Satp, Mstatus, Medeleg, Mtvec, Menvcfg}
+use Rattle.csr.specs.declared.Csr.the-variants.{Mscratch, Mepc, Mcause, Mtval, Mseccfg}
 use Rattle.rights.specs.declared.reach.Reached.{Reached}
 use Rattle.rights.specs.declared.reach.Reached.the-variants.{To, Illegal}
 

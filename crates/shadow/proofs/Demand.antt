@@ -36,7 +36,8 @@ use Rattle.hart.specs.declared.Hart.{Hart}
 use Rattle.call.proofs.Accepted.{no-refusal}
 use Rattle.origin.proofs.Users.{in-user, sv39-on, Same, same}
 use Rattle.origin.specs.Force.{inForce}
-use Rattle.shadow.specs.Promise.{StandsOnce, Starts, Event, Stretch, start, step, Shadow, unmatched, PopCheck, Permitted, matchOf, Promise, Claim}
+use Rattle.shadow.specs.Promise.{StandsOnce, Starts, Event, Stretch, start, step, Shadow, unmatched, PopCheck, Permitted, matchOf, Promise}
+use Rattle.shadow.specs.Promise.{Claim}
 use Rattle.shadow.proofs.Geometry.{Geometry}
 use Rattle.shadow.proofs.Invariant.{inv-start}
 use Rattle.shadow.proofs.Slots.{geometry}

@@ -26,7 +26,8 @@ use Rattle.place.specs.declared.Place.the-variants.{At}
 use Rattle.origin.proofs.Entries.{Behind, behind}
 use Rattle.origin.specs.Force.{leafAt, Entry}
 use Rattle.shadow.specs.Promise.{Shadow, StandsOnce, ValidShadow}
-use Rattle.shadow.proofs.Cycles.{Masked, masked, rankOf, rank-step, rank-back, rank-same, rank-inj, gap, sign-same, sign-inj, sign-lt, canonical-inj}
+use Rattle.shadow.proofs.Cycles.{Masked, masked, rankOf, rank-step, rank-back, rank-same, rank-inj, gap, sign-same, sign-inj, sign-lt}
+use Rattle.shadow.proofs.Cycles.{canonical-inj}
 use Rattle.shadow.proofs.Geometry.{Geometry}
 use Rattle.shadow.proofs.Places.{one-entry}
 

@@ -46,7 +46,8 @@ use Rattle.hart.specs.Step.{Outcome, csrOf, wholeOf, planOf, stepFrom}
 use Rattle.hart.specs.declared.Hart.{Hart}
 use Rattle.call.specs.Call.{refusalOf}
 use Rattle.origin.specs.Force.{inForce}
-use Rattle.shadow.specs.Promise.{StandsOnce, Starts, quiet, NoSwap, NoPointerWrite, Stretch, start, pushes, pops, Shadow, latest, PopCheck, Permitted, unmatched, Promise}
+use Rattle.shadow.specs.Promise.{StandsOnce, Starts, quiet, NoSwap, NoPointerWrite, Stretch, start, pushes, pops, Shadow, latest, PopCheck}
+use Rattle.shadow.specs.Promise.{Permitted, unmatched, Promise}
 use Rattle.shadow.proofs.Witness.{memory₀, map₀, hart₀, once₀, no-swap, no-pointer-write, then}
 
 -- the hypotheses on the start, one by one
@@ -168,7 +169,11 @@ record Computed : Type 0 where
   disabled-goes-on : stepFrom (Given sspopchk) disabled memory₀ map₀ .trapped ≡ false
 
 computed : Computed
-unfolding refusalOf legal wordsLegal memory.refusedOf page.refusedOf page.pagesOf page.anyLarge page.riseFrom page.strictlyRise stepFrom wholeOf csrOf writtenOf shownOf effectOf fetchedOf arrivedOf landedOf executeOf decodeOf base.storeOf swapOf system.systemOf system.csrOf zimopOf csrs.csrOf csrs.reachedOf reachOf accessOf passedOf atOf doneOf placeOf reachedOf control.modeOf transformedOf maskOf alignedOf pagedPlaceOf plainPlaceOf throughOf page.lookupOf settleOf judgeOf insideOf withinOf settingOf controlOf shadowOn padOn modeOf memory₀ bytesOf number loadOf extendOf
+unfolding refusalOf legal wordsLegal memory.refusedOf page.refusedOf page.pagesOf page.anyLarge page.riseFrom page.strictlyRise stepFrom wholeOf
+    csrOf writtenOf shownOf effectOf fetchedOf arrivedOf landedOf executeOf decodeOf base.storeOf swapOf system.systemOf system.csrOf zimopOf
+    csrs.csrOf csrs.reachedOf reachOf accessOf passedOf atOf doneOf placeOf reachedOf control.modeOf transformedOf maskOf alignedOf pagedPlaceOf
+    plainPlaceOf throughOf page.lookupOf settleOf judgeOf insideOf withinOf settingOf controlOf shadowOn padOn modeOf memory₀ bytesOf number
+    loadOf extendOf
 computed = record {
   alias-accepted = refl;
   alias-shadow = record { entry = 1; stands = omega arith; valid = (refl, refl); frame = refl };

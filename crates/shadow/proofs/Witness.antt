@@ -40,7 +40,8 @@ use Rattle.hart.specs.Step.{applyOf, trapsOf, planOf, stepFrom}
 use Rattle.hart.specs.declared.Hart.{Hart}
 use Rattle.call.specs.Call.{refusalOf}
 use Rattle.origin.specs.Force.{inForce}
-use Rattle.shadow.specs.Promise.{StandsOnce, Starts, Event, pushed, popped, quiet, eventOf, NoSwap, NoPointerWrite, Stretch, start, step, Shadow, PopCheck, Permitted, unmatched, matchOf}
+use Rattle.shadow.specs.Promise.{StandsOnce, Starts, Event, pushed, popped, quiet, eventOf, NoSwap, NoPointerWrite, Stretch, start, step}
+use Rattle.shadow.specs.Promise.{Shadow, PopCheck, Permitted, unmatched, matchOf}
 use Rattle.shadow.proofs.Demand.{shadow-stack}
 
 -- sspush x1, sspush x5, sspopchk x5, sspopchk x1, sspopchk x1, sspush x5, sspopchk x1
@@ -131,7 +132,9 @@ pub record Effects : Type 0 where
   pub seventh : planOf Fetch hart₆ memory₃ map₀ ≡ Trap 18 3
 
 pub effects : Effects
-unfolding effectOf fetchedOf arrivedOf landedOf executeOf decodeOf systemOf csrOf zimopOf accessOf passedOf atOf doneOf poppedOf placeOf reachedOf control.modeOf transformedOf maskOf alignedOf pagedPlaceOf throughOf page.lookupOf settleOf judgeOf insideOf withinOf settingOf controlOf shadowOn padOn modeOf memory₀ bytesOf number loadOf storeOf
+unfolding effectOf fetchedOf arrivedOf landedOf executeOf decodeOf systemOf csrOf zimopOf accessOf passedOf atOf doneOf poppedOf placeOf reachedOf
+    control.modeOf transformedOf maskOf alignedOf pagedPlaceOf throughOf page.lookupOf settleOf judgeOf insideOf withinOf settingOf controlOf
+    shadowOn padOn modeOf memory₀ bytesOf number loadOf storeOf
 effects = record { first = refl; second = refl; third = refl; fourth = refl; fifth = refl; sixth = refl; seventh = refl }
 
 -- 1 is a swap, 2 a CSR instruction or a return from a trap, 0 any other effect: so tells apart what a stretch may not have from what it surely may
@@ -203,7 +206,8 @@ pub record Applies : Type 0 where
   pub byte : Shadow (inForce hart₀) map₀ 0x1010
 
 pub applies : Applies
-unfolding fetchedOf decodeOf systemOf csrOf zimopOf placeOf reachedOf control.modeOf transformedOf maskOf alignedOf pagedPlaceOf throughOf page.lookupOf settleOf judgeOf insideOf withinOf settingOf controlOf shadowOn padOn modeOf memory₀ bytesOf number loadOf storeOf
+unfolding fetchedOf decodeOf systemOf csrOf zimopOf placeOf reachedOf control.modeOf transformedOf maskOf alignedOf pagedPlaceOf throughOf
+    page.lookupOf settleOf judgeOf insideOf withinOf settingOf controlOf shadowOn padOn modeOf memory₀ bytesOf number loadOf storeOf
 applies = record {
   third = record { word = 0xCDC2C073; rd = 0; rs1 = 5; rs2 = 0; off = 0; arrives = refl; passes = refl; reads = refl; register = refl };
   third-at = refl;

@@ -13,7 +13,8 @@ use Rattle.hart.specs.Step.{outcomeOf, planOf, stepFrom}
 use Rattle.call.specs.Call.{runRefusalOf, takenWith, runCall}
 use Rattle.shadow.specs.Promise.{NoSwap, NoPointerWrite, Promise}
 use Rattle.shadow.proofs.Runs.{effectAfter, Undisturbed, runEvents, run-keeps}
-use Rattle.shadow.proofs.Witness.{memory₀, memory₁, memory₂, memory₃, map₀, hart₀, hart₁, hart₂, hart₃, hart₄, hart₅, hart₆, hart₇, starts, effects, sortOf, no-swap, no-pointer-write}
+use Rattle.shadow.proofs.Witness.{memory₀, memory₁, memory₂, memory₃, map₀, hart₀, hart₁, hart₂, hart₃, hart₄, hart₅, hart₆, hart₇, starts}
+use Rattle.shadow.proofs.Witness.{effects, sortOf, no-swap, no-pointer-write}
 
 -- n steps
 abbrev steps : ℕ → Run

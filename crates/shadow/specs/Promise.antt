@@ -106,7 +106,8 @@ module _ (map : List ℕ) (h₀ : Hart) (m₀ : List ℕ) where
     start : Stretch [] h₀ m₀ false
     step : {es : List Event} {h : Hart} {m : List ℕ} → Stretch es h m false → (source : Source)
         → NoSwap (planOf source h m map) → NoPointerWrite (planOf source h m map)
-        → Stretch (eventOf (planOf source h m map) ∷ es) (stepFrom source h m map .hart) (stepFrom source h m map .memory) (stepFrom source h m map .trapped)
+        → Stretch (eventOf (planOf source h m map) ∷ es) (stepFrom source h m map .hart) (stepFrom source h m map .memory)
+        (stepFrom source h m map .trapped)
 
 -- how many pushes completed
 unfoldable pub pushes : List Event → ℕ

@@ -32,10 +32,14 @@ fn call(
     answer: &mut [u64; 3],
 ) -> u64
     ensures result { λ r. ⌜ r ≡ leftFrom source budget (now (x .entry)) (now (rest .entry)) (now (mem .entry)) (now (map .entry)) .result ⌝ }
-    ensures registers { λ _. ⌜ now (x .exit) ≡ leftFrom source budget (now (x .entry)) (now (rest .entry)) (now (mem .entry)) (now (map .entry)) .x ⌝ }
-    ensures others { λ _. ⌜ now (rest .exit) ≡ leftFrom source budget (now (x .entry)) (now (rest .entry)) (now (mem .entry)) (now (map .entry)) .rest ⌝ }
-    ensures memory { λ _. ⌜ now (mem .exit) ≡ leftFrom source budget (now (x .entry)) (now (rest .entry)) (now (mem .entry)) (now (map .entry)) .memory ⌝ }
-    ensures answer { λ _. ⌜ now (answer .exit) ≡ leftFrom source budget (now (x .entry)) (now (rest .entry)) (now (mem .entry)) (now (map .entry)) .answer ⌝ }
+    ensures registers { λ _. ⌜ now (x .exit) ≡ leftFrom source budget (now (x .entry)) (now (rest .entry)) (now (mem .entry))
+        (now (map .entry)) .x ⌝ }
+    ensures others { λ _. ⌜ now (rest .exit) ≡ leftFrom source budget (now (x .entry)) (now (rest .entry)) (now (mem .entry))
+        (now (map .entry)) .rest ⌝ }
+    ensures memory { λ _. ⌜ now (mem .exit) ≡ leftFrom source budget (now (x .entry)) (now (rest .entry)) (now (mem .entry))
+        (now (map .entry)) .memory ⌝ }
+    ensures answer { λ _. ⌜ now (answer .exit) ≡ leftFrom source budget (now (x .entry)) (now (rest .entry)) (now (mem .entry))
+        (now (map .entry)) .answer ⌝ }
 {
     let n = call::run_refusal(x, rest, mem, map, budget);
     if n == 0 {
@@ -78,7 +82,8 @@ pub extern "C" fn sporhulma_step_word(
     ensures registers { λ _. ⌜ now (x .exit) ≡ stepWordLeft word (now (x .entry)) (now (rest .entry)) (now (mem .entry)) (now (map .entry)) .x ⌝ }
     ensures others { λ _. ⌜ now (rest .exit) ≡ stepWordLeft word (now (x .entry)) (now (rest .entry)) (now (mem .entry)) (now (map .entry)) .rest ⌝ }
     ensures memory { λ _. ⌜ now (mem .exit) ≡ stepWordLeft word (now (x .entry)) (now (rest .entry)) (now (mem .entry)) (now (map .entry)) .memory ⌝ }
-    ensures answer { λ _. ⌜ now (answer .exit) ≡ stepWordLeft word (now (x .entry)) (now (rest .entry)) (now (mem .entry)) (now (map .entry)) .answer ⌝ }
+    ensures answer { λ _. ⌜ now (answer .exit)
+        ≡ stepWordLeft word (now (x .entry)) (now (rest .entry)) (now (mem .entry)) (now (map .entry)) .answer ⌝ }
 {
     call(x, rest, Source::Given(word), mem, map, 1, answer)
 }

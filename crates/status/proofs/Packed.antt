@@ -32,21 +32,25 @@ pub shows : (m : ℕ) → readOf mstatus m ≡ wordOf (statusOf m)
 shows m = simp num-bit (omega arith)
 
 -- as the code goes
-pub written : (old v mode w : ℕ) (s t : Status) → s ≡ statusOf v → mode ≡ mergedOf (statusOf old) (statusOf v) .mpp → t ≡ withMpp s mode → w ≡ wordOf t
+pub written : (old v mode w : ℕ) (s t : Status) → s ≡ statusOf v → mode ≡ mergedOf (statusOf old) (statusOf v) .mpp → t ≡ withMpp s mode → w
+    ≡ wordOf t
     → w ≡ writeOf mstatus old v
 written old v mode w s t a b c d =
     d ∙ ap wordOf (c ∙ ap (λ (x : Status). withMpp x mode) a ∙ ap (λ (k : ℕ). withMpp (statusOf v) k) b) ∙ sym (merges old v)
 
 -- the digits of the sum
-module _ (a b c d e p f g h i j : ℕ) (ha : a < 2) (hb : b < 2) (hc : c < 2) (hd : d < 2) (he : e < 2) (hp : p < 4) (hf : f < 2) (hg : g < 2) (hh : h < 2)
+module _ (a b c d e p f g h i j : ℕ) (ha : a < 2) (hb : b < 2) (hc : c < 2) (hd : d < 2) (he : e < 2) (hp : p < 4) (hf : f < 2) (hg : g < 2)
+    (hh : h < 2)
     (hi : i < 2) (hj : j < 2) where
   abbrev total : ℕ
   total =
-      a * 2 ^ 1 + b * 2 ^ 3 + c * 2 ^ 5 + d * 2 ^ 7 + e * 2 ^ 8 + p * 2 ^ 11 + f * 2 ^ 17 + g * 2 ^ 18 + h * 2 ^ 19 + i * 2 ^ 23 + 2 * 2 ^ 32 + 2 * 2 ^ 34
+      a * 2 ^ 1 + b * 2 ^ 3 + c * 2 ^ 5 + d * 2 ^ 7 + e * 2 ^ 8 + p * 2 ^ 11 + f * 2 ^ 17 + g * 2 ^ 18 + h * 2 ^ 19 + i * 2 ^ 23 + 2 * 2 ^ 32 + 2 *
+      2 ^ 34
       + j * 2 ^ 41
 
   digits :
-      (total / 2 ^ 1 % 2 ≡ a) × (total / 2 ^ 3 % 2 ≡ b) × (total / 2 ^ 5 % 2 ≡ c) × (total / 2 ^ 7 % 2 ≡ d) × (total / 2 ^ 8 % 2 ≡ e) × (total / 2 ^ 11 % 4 ≡ p)
+      (total / 2 ^ 1 % 2 ≡ a) × (total / 2 ^ 3 % 2 ≡ b) × (total / 2 ^ 5 % 2 ≡ c) × (total / 2 ^ 7 % 2 ≡ d) × (total / 2 ^ 8 % 2 ≡ e)
+      × (total / 2 ^ 11 % 4 ≡ p)
       × (total / 2 ^ 17 % 2 ≡ f) × (total / 2 ^ 18 % 2 ≡ g) × (total / 2 ^ 19 % 2 ≡ h) × (total / 2 ^ 23 % 2 ≡ i) × (total / 2 ^ 41 % 2 ≡ j)
   digits =
       (omega arith, omega arith, omega arith, omega arith, omega arith, omega arith, omega arith, omega arith, omega arith, omega arith, omega arith)
@@ -63,7 +67,8 @@ read false = refl
 pub unpacked : (s : Status) → s .mpp < 4 → statusOf (wordOf s) ≡ s
 unpacked s l =
     let (a, b, c, d, e, p, f, g, h, i, j) =
-    digits (num (s .sie)) (num (s .mie)) (num (s .spie)) (num (s .mpie)) (num (s .spp)) (s .mpp) (num (s .mprv)) (num (s .sum)) (num (s .mxr)) (num (s .spelp))
+    digits (num (s .sie)) (num (s .mie)) (num (s .spie)) (num (s .mpie)) (num (s .spp)) (s .mpp) (num (s .mprv)) (num (s .sum)) (num (s .mxr))
+    (num (s .spelp))
     (num (s .mpelp)) (small (s .sie)) (small (s .mie)) (small (s .spie)) (small (s .mpie)) (small (s .spp)) l (small (s .mprv)) (small (s .sum))
     (small (s .mxr)) (small (s .spelp)) (small (s .mpelp)) in
     rw (a, b, c, d, e, p, f, g, h, i, j) (simp read)
@@ -79,7 +84,8 @@ merged-same r s ok = rw ok
 pub packed : (s : Status) → s .mpp < 4 → isMpp (s .mpp) ≡ true → legalOf mstatus (wordOf s) ≡ true
 packed s l ok =
     let e : writeOf mstatus start (wordOf s) ≡ wordOf s =
-    merges start (wordOf s) ∙ ap (λ (t : Status). wordOf (mergedOf (statusOf start) t)) (unpacked s l) ∙ ap wordOf (merged-same (statusOf start) s ok) in
+    merges start (wordOf s) ∙ ap (λ (t : Status). wordOf (mergedOf (statusOf start) t)) (unpacked s l)
+    ∙ ap wordOf (merged-same (statusOf start) s ok) in
     rw (e) at (left mstatus start (wordOf s) refl refl)
 
 -- a word that mstatus can hold has a mode in MPP

@@ -29,7 +29,8 @@ statusOf m = record {
 abbrev pub wordOf : Status → ℕ
 wordOf s =
     num (s .sie) * 2 ^ 1 + num (s .mie) * 2 ^ 3 + num (s .spie) * 2 ^ 5 + num (s .mpie) * 2 ^ 7 + num (s .spp) * 2 ^ 8 + s .mpp * 2 ^ 11
-    + num (s .mprv) * 2 ^ 17 + num (s .sum) * 2 ^ 18 + num (s .mxr) * 2 ^ 19 + num (s .spelp) * 2 ^ 23 + 2 * 2 ^ 32 + 2 * 2 ^ 34 + num (s .mpelp) * 2 ^ 41
+    + num (s .mprv) * 2 ^ 17 + num (s .sum) * 2 ^ 18 + num (s .mxr) * 2 ^ 19 + num (s .spelp) * 2 ^ 23 + 2 * 2 ^ 32 + 2 * 2 ^ 34 + num
+    (s .mpelp) * 2 ^ 41
 
 abbrev pub withMpp : Status → ℕ → Status
 withMpp s mode = record {

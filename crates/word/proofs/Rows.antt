@@ -12,7 +12,8 @@ use lib.Dec.{eqb}
 use borrow.Author.Tests.{eq-eqb, eqb-true, ltb-true}
 use Rattle.word.specs.Choice.{pick}
 use Rattle.word.proofs.Bools.{both}
-use Rattle.word.specs.Row.{Field, Fixed, Covered, Any, Only, Hidden, widthOf, takesOf, showsOf, holdsOf, digit, writeFrom, readFrom, legalFrom, writeOf, readOf, legalOf, bitsOf, fits, allFit, seen, allSeen}
+use Rattle.word.specs.Row.{Field, Fixed, Covered, Any, Only, Hidden, widthOf, takesOf, showsOf, holdsOf, digit, writeFrom, readFrom, legalFrom}
+use Rattle.word.specs.Row.{writeOf, readOf, legalOf, bitsOf, fits, allFit, seen, allSeen}
 
 join : (a b : Bool) → a ≡ true → b ≡ true → (a && b) ≡ true
 join a b h g = rw (h, g)

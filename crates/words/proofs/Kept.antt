@@ -19,7 +19,8 @@ use Rattle.crossing.specs.Trap.{isSupervisor, trappedM, trappedS, enterM, enter
 use Rattle.crossing.specs.Return.{returnedM, returnedS, leaveM, leaveS}
 use Rattle.crossing.proofs.Crossed.{enter-m-fields, enter-s-fields, leave-m-fields, leave-s-fields}
 use Rattle.rights.specs.Enable.{padOf}
-use Rattle.words.specs.Words.{_of_, _but_≔_, expected, flagOf, COUNT, PC, MODE, ELP, SENVCFG, SEPC, SCAUSE, STVAL, MSTATUS, MEDELEG, MENVCFG, MEPC, MCAUSE, MTVAL, MSECCFG}
+use Rattle.words.specs.Words.{_of_, _but_≔_, expected, flagOf, COUNT, PC, MODE, ELP, SENVCFG, SEPC, SCAUSE, STVAL, MSTATUS, MEDELEG, MENVCFG}
+use Rattle.words.specs.Words.{MEPC, MCAUSE, MTVAL, MSECCFG}
 use Rattle.words.specs.Trap.{trapM, trapS, trapOf}
 use Rattle.words.specs.Return.{backIn, mretOf, sretOf}
 use Rattle.words.proofs.Stored.{among, Only, none, also}

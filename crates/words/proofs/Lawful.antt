@@ -22,13 +22,15 @@ use Rattle.status.specs.Fields.{mstatus}
 use Rattle.status.specs.Mode.{modeOf, numberOf}
 use Rattle.csr.specs.Row.{fours, envcfg, satp, medeleg, mseccfg, rowOf, isView}
 use Rattle.csr.specs.declared.Csr.{Csr}
-use Rattle.csr.specs.declared.Csr.the-variants.{Ssp, Sstatus, Stvec, Senvcfg, Sscratch, Sepc, Scause, Stval, Satp, Mstatus, Medeleg, Mtvec, Menvcfg, Mscratch, Mepc, Mcause, Mtval, Mseccfg}
+use Rattle.csr.specs.declared.Csr.the-variants.{Ssp, Sstatus, Stvec, Senvcfg, Sscratch, Sepc, Scause, Stval, Satp, Mstatus, Medeleg, Mtvec, Menvcfg}
+use Rattle.csr.specs.declared.Csr.the-variants.{Mscratch, Mepc, Mcause, Mtval, Mseccfg}
 use Rattle.csr.proofs.Made.{all-fit, all-seen, sixty-four, alike}
 use Rattle.rights.specs.Enable.{sseOf, padOf}
 use Rattle.regime.specs.Legal.{isMode}
 use Rattle.crossing.specs.Route.{toS, delegatedOf}
 use Rattle.crossing.proofs.Crossed.{enter-m-legal, enter-s-legal, leave-m-legal, leave-s-legal}
-use Rattle.words.specs.Words.{_of_, _but_≔_, slotOf, flagOf, expected, COUNT, PC, MODE, ELP, SSP, STVEC, SENVCFG, SEPC, SCAUSE, STVAL, SATP, MSTATUS, MEDELEG, MTVEC, MENVCFG, MEPC, MCAUSE, MTVAL, MSECCFG}
+use Rattle.words.specs.Words.{_of_, _but_≔_, slotOf, flagOf, expected, COUNT, PC, MODE, ELP, SSP, STVEC, SENVCFG, SEPC, SCAUSE, STVAL, SATP}
+use Rattle.words.specs.Words.{MSTATUS, MEDELEG, MTVEC, MENVCFG, MEPC, MCAUSE, MTVAL, MSECCFG}
 use Rattle.words.specs.Access.{writtenOf, csrWriteOf}
 use Rattle.words.specs.Legal.{holds, held, wordsLegal}
 use Rattle.words.specs.Trap.{trapM, trapS, trapOf}

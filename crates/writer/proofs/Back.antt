@@ -5,7 +5,9 @@ use Prim.Native.Nat.{ℕ, _+_, _*_, _%_, _^_, _<_}
 use native.Mathlib.Omega.{arith}
 use Rattle.word.specs.Field.{bits, opcode, fieldsOf}
 use Rattle.word.specs.Immediate.{immI, immS, immB}
-use Rattle.base.specs.Base.{jalrOf, jalrs, branchOf, branches, loadOf, loads, storeOf, stores, countOf, counts, countWordOf, countWords, shiftOf, shifts, opImmOf, opImms, wordShiftOf, wordShifts, opImm32Of, opImm32s, extensionOf, extensions, opOf, ops, extension32Of, extension32s, op32Of, op32s, miscMemOf, miscMems, functs, shiftKey, countKey}
+use Rattle.base.specs.Base.{jalrOf, jalrs, branchOf, branches, loadOf, loads, storeOf, stores, countOf, counts, countWordOf, countWords, shiftOf}
+use Rattle.base.specs.Base.{shifts, opImmOf, opImms, wordShiftOf, wordShifts, opImm32Of, opImm32s, extensionOf, extensions, opOf, ops, extension32Of}
+use Rattle.base.specs.Base.{extension32s, op32Of, op32s, miscMemOf, miscMems, functs, shiftKey, countKey}
 use Rattle.isa.specs.declared.Instruction.{Instruction}
 use Rattle.isa.specs.declared.Instruction.the-variants.{Illegal}
 use Rattle.numbers.specs.Numbers.{numbersOf}
@@ -184,5 +186,6 @@ module _ (w : ℕ) (h : w < 2 ^ 32) where
   unfolding miscMemOf packOf systemPackOf
   fence-back o =
       looked (Back w) (bits w 14 12) (miscMems w (fieldsOf w))
-      ((λ e n. i-back w h 0b0001111 0 _ o (sym e) (fence-parts _ _ _ _ _ (omega arith) (omega arith) (omega arith) (join w 24 4 4) (join w 20 8 4))) and
+      ((λ e n. i-back w h 0b0001111 0 _ o (sym e) (fence-parts _ _ _ _ _ (omega arith) (omega arith) (omega arith) (join w 24 4 4) (join w 20 8 4)))
+      and
       none w)

@@ -9,7 +9,8 @@ use Rattle.decoder.specs.Decode.{decodeOf, opcodes}
 use Rattle.writer.specs.Pack.{packOf, systemPackOf}
 use Rattle.word.proofs.Tables.{looked, _and_}
 use Rattle.writer.proofs.Formats.{i-back, u-back, j-back}
-use Rattle.writer.proofs.Back.{Back, none, jalr-back, branch-back, load-back, store-back, op-imm-back, op-imm-32-back, op-back, op-32-back, fence-back}
+use Rattle.writer.proofs.Back.{Back, none, jalr-back, branch-back, load-back, store-back, op-imm-back, op-imm-32-back, op-back, op-32-back}
+use Rattle.writer.proofs.Back.{fence-back}
 use Rattle.writer.proofs.Cfi.{swap-back, zimop-back}
 
 number : (x : ℕ) → x < 2 ^ 12 → (0 + x % 2 ^ 12) % 2 ^ 12 ≡ x

@@ -160,7 +160,8 @@ module _ (w : ℕ) (h : w < 2 ^ 32) where
   s-back op k eo ek =
       let hd : bits w 11 7 < 2 ^ 5 = omega arith in
       let e : immS w % 2 ^ 12 ≡ (bits w 31 25 * 2 ^ 5 + bits w 11 7) % 2 ^ 12 = extend-keeps 12 _ (omega arith) (omega arith) in
-      let low : immS w % 2 ^ 5 ≡ bits w 11 7 = sym (mod-mod-pow (immS w) 7 5) ∙ rw (e, mod-mod-pow (bits w 31 25 * 2 ^ 5 + bits w 11 7) 7 5) (digits-mod (bits w 31 25) hd) in
+      let low : immS w % 2 ^ 5 ≡ bits w 11 7 = sym (mod-mod-pow (immS w) 7 5)
+      ∙ rw (e, mod-mod-pow (bits w 31 25 * 2 ^ 5 + bits w 11 7) 7 5) (digits-mod (bits w 31 25) hd) in
       let high : immS w / 2 ^ 5 % 2 ^ 7 ≡ bits w 31 25 = part 0 7 5 (immS w) _ e ∙ rw (digits-div (bits w 31 25) hd) (mod-mod _ _) in
       whole w op (immS w) k _ _ h eo low ek (mod-mod _ _)
       (cut 12 (w / 2 ^ 20) (rw (high, mod-mod (w / 2 ^ 20) (2 ^ 5)) (join w 20 7 5)))

@@ -15,7 +15,8 @@ use Rattle.decoder.specs.Decode.{decodeOf}
 use Rattle.isa.specs.declared.Condition.{Condition}
 use Rattle.isa.specs.declared.Condition.the-variants.{Equal}
 use Rattle.isa.specs.declared.Instruction.{Instruction}
-use Rattle.isa.specs.declared.Instruction.the-variants.{Illegal, Lui, Auipc, Jal, Jalr, Branch, Memory, OpImm, OpImm32, Op, Op32, Fence, Ecall, Ebreak, Sret, Mret, Csr, ReadSsp, MopR, MopRr}
+use Rattle.isa.specs.declared.Instruction.the-variants.{Illegal, Lui, Auipc, Jal, Jalr, Branch, Memory, OpImm, OpImm32, Op, Op32, Fence, Ecall}
+use Rattle.isa.specs.declared.Instruction.the-variants.{Ebreak, Sret, Mret, Csr, ReadSsp, MopR, MopRr}
 use Rattle.numbers.specs.Numbers.{numbersOf}
 use Rattle.writer.specs.declared.Written.{Written}
 use Rattle.writer.specs.declared.Written.the-variants.{Word, Refused}
@@ -91,7 +92,8 @@ module _ (w : ℕ) where
   branch-opcode : (c : Condition) (a b o : ℕ) → Reads w (Branch c a b o) → opcode w ≡ 0b1100011
   unfolding packOf
   branch-opcode c a b o (h, d, l) =
-      ap (λ (v : ℕ). v % 2 ^ 7) (sym (decoded-back w h (λ z. l (sym d ∙ z)))) ∙ ap (λ (i : Instruction). packOf (numbersOf i) % 2 ^ 7) d ∙ lowest 0b1100011 _ _ _ _ (omega arith)
+      ap (λ (v : ℕ). v % 2 ^ 7) (sym (decoded-back w h (λ z. l (sym d ∙ z)))) ∙ ap (λ (i : Instruction). packOf (numbersOf i) % 2 ^ 7) d
+      ∙ lowest 0b1100011 _ _ _ _ (omega arith)
 
   -- a word that reads as a branch has its distance in its bits
   pub branch-reach : (c : Condition) (a b o : ℕ) → Reads w (Branch c a b o) → InReach 13 o
@@ -103,7 +105,8 @@ module _ (w : ℕ) where
   jump-opcode : (d o : ℕ) → Reads w (Jal d o) → opcode w ≡ 0b1101111
   unfolding packOf
   jump-opcode d o (h, e, l) =
-      ap (λ (v : ℕ). v % 2 ^ 7) (sym (decoded-back w h (λ z. l (sym e ∙ z)))) ∙ ap (λ (i : Instruction). packOf (numbersOf i) % 2 ^ 7) e ∙ lowest 0b1101111 _ _ _ _ (omega arith)
+      ap (λ (v : ℕ). v % 2 ^ 7) (sym (decoded-back w h (λ z. l (sym e ∙ z)))) ∙ ap (λ (i : Instruction). packOf (numbersOf i) % 2 ^ 7) e
+      ∙ lowest 0b1101111 _ _ _ _ (omega arith)
 
   read-jump : opcode w ≡ 0b1101111 → distanceOf (decodeOf w) ≡ immJ w
   unfolding decodeOf

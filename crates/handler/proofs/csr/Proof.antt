@@ -11,20 +11,15 @@ returns c =
     let s = c .before .before in
     let h = s .before .before .before in
     let old = h .before .before .before .before .held .ensures in
-    let a = h .before .before .before .before .before .before .args in
-    (c .put .ensures ∙ ap (λ (v : ℕ). putOf (a .rd) v (a .x .now)) old, rw (s .store .ensures, h .held2 .ensures, h .before .merged .ensures, h .before .before .reg .ensures, old, s .before .writes .ensures))
+    let a = h .before .before .before .before .before .before .args in (
+      c .put .ensures ∙ ap (λ (v : ℕ). putOf (a .rd) v (a .x .now)) old,
+      rw (s .store .ensures, h .held2 .ensures, h .before .merged .ensures, h .before .before .reg .ensures, old, s .before .writes .ensures),
+    )
 
 pub csr-spec : {M : Type 1} → statement M
 csr-spec =
     tie.close
     (tie.spec
-    (λ c. search needs)
-    (λ c. search needs)
-    (λ c κs. search needs)
-    (λ c κs. search needs)
-    (λ c κs. search needs)
-    (λ c κs. search needs)
-    (λ c κs. search needs)
-    (λ c κs. search needs)
-    (λ c κs. search needs)
+    (λ c. search needs) (λ c. search needs) (λ c κs. search needs) (λ c κs. search needs) (λ c κs. search needs)
+    (λ c κs. search needs) (λ c κs. search needs) (λ c κs. search needs) (λ c κs. search needs)
     returns)

@@ -21,11 +21,7 @@ pub csr-word-spec : {M : Type 1} → statement M
 csr-word-spec =
     tie.close
     (tie.spec
-    (λ c. search needs)
-    (λ c. search needs)
-    (λ c κs. search needs)
-    (λ c. search needs)
-    (λ c κs. search needs)
+    (λ c. search needs) (λ c. search needs) (λ c κs. search needs) (λ c. search needs) (λ c κs. search needs)
     csr-requires
     (λ c. search needs)
     returns

@@ -28,8 +28,11 @@ store-requires : tie.Need-store-requires
 store-requires c κs =
     let i = c .before .before in
     let t = i .before .before .before in
-    let s = t .before .before .before .before .before .args in
-    (t .table .ensures, none-bad (length (s .mem .now)) 0 1 (linesOf (s .text .now)) (omega arith) (sym (i .before .first-bad .ensures .0) ∙ i .if2 .taken))
+    let s = t .before .before .before .before .before .args in (
+      t .table .ensures,
+      none-bad (length (s .mem .now)) 0 1 (linesOf (s .text .now)) (omega arith)
+          (sym (i .before .first-bad .ensures .0) ∙ i .if2 .taken),
+    )
 
 returns-2 : tie.Need-returns-2
 returns-2 c =
@@ -37,7 +40,8 @@ returns-2 c =
     let j = i .before .first-bad in
     let n = i .before .before .before .before in
     let s = n .before .before .before .before .args in
-    let (a, m) = taken (s .text .now) (s .mem .now) (sym (n .before .refused .ensures) ∙ n .if1 .left) (j .result .line) (j .ensures .0) (i .if2 .taken) in
+    let (a, m) = taken (s .text .now) (s .mem .now) (sym (n .before .refused .ensures) ∙ n .if1 .left) (j .result .line) (j .ensures .0)
+    (i .if2 .taken) in
     (ap (λ (x : Start). answered 0 0 x (s .mem .now) .answer) (j .ensures .1 (i .if2 .taken)) ∙ a, c .before .before .before .store .ensures ∙ m)
 
 returns-3 : tie.Need-returns-3
@@ -46,7 +50,8 @@ returns-3 c =
     let j = i .before .first-bad in
     let n = i .before .before .before .before in
     let s = n .before .before .before .before .args in
-    let (a, m) = refused-6 (s .text .now) (s .mem .now) (sym (n .before .refused .ensures) ∙ n .if1 .left) (j .result .line) (j .ensures .0) (i .if2 .left) in
+    let (a, m) = refused-6 (s .text .now) (s .mem .now) (sym (n .before .refused .ensures) ∙ n .if1 .left) (j .result .line) (j .ensures .0)
+    (i .if2 .left) in
     (c .refused3 .ensures ∙ a, m)
 
 pub load-spec : {M : Type 1} → statement M

@@ -20,7 +20,22 @@ returns c =
     let c11 = c10 .before in
     let c12 = c11 .before in
     let c13 = c12 .before in
-    rw (c .decide .ensures, c10 .valid-leaf .ensures, c8 .user-bit .ensures, c5 .off-read-only .ensures, c4 .own-page .ensures, c3 .permits .ensures, c1 .accessed-dirty .ensures, c11 .has-right .ensures, c9 .is-fetch .ensures, c7 .is-shadow .ensures, c6 .read-only .ensures, c12 .readable .ensures, c2 .writes .ensures, c13 .shadow-page .ensures)
+    rw (
+      c .decide .ensures,
+      c10 .valid-leaf .ensures,
+      c8 .user-bit .ensures,
+      c5 .off-read-only .ensures,
+      c4 .own-page .ensures,
+      c3 .permits .ensures,
+      c1 .accessed-dirty .ensures,
+      c11 .has-right .ensures,
+      c9 .is-fetch .ensures,
+      c7 .is-shadow .ensures,
+      c6 .read-only .ensures,
+      c12 .readable .ensures,
+      c2 .writes .ensures,
+      c13 .shadow-page .ensures,
+    )
 
 pub judge-spec : {M : Type 1} → statement M
 judge-spec =

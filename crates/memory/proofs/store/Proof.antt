@@ -33,19 +33,23 @@ store-spec =
     (λ c.
     let a = c .before .before .before .before in
     let s = a .before .before .before in
-    rw (a .enum-told .given .1) (stored-at (s .args .mem .now) _ (s .args .at) 1 (s .args .v) (rw (a .enum-told .given .1) at (s .pre)) (c .before .before .write-1 .ensures)))
+    rw (a .enum-told .given .1) (stored-at (s .args .mem .now) _ (s .args .at) 1 (s .args .v) (rw (a .enum-told .given .1) at (s .pre))
+    (c .before .before .write-1 .ensures)))
     (λ c. search needs)
     (λ c.
     let a = c .before .before .before .before in
     let s = a .before .before .before in
-    rw (a .enum-told2 .given .1) (stored-at (s .args .mem .now) _ (s .args .at) 2 (s .args .v) (rw (a .enum-told2 .given .1) at (s .pre)) (c .before .before .write-2 .ensures)))
+    rw (a .enum-told2 .given .1) (stored-at (s .args .mem .now) _ (s .args .at) 2 (s .args .v) (rw (a .enum-told2 .given .1) at (s .pre))
+    (c .before .before .write-2 .ensures)))
     (λ c. search needs)
     (λ c.
     let a = c .before .before .before .before in
     let s = a .before .before .before in
-    rw (a .enum-told3 .given .1) (stored-at (s .args .mem .now) _ (s .args .at) 4 (s .args .v) (rw (a .enum-told3 .given .1) at (s .pre)) (c .before .before .write-4 .ensures)))
+    rw (a .enum-told3 .given .1) (stored-at (s .args .mem .now) _ (s .args .at) 4 (s .args .v) (rw (a .enum-told3 .given .1) at (s .pre))
+    (c .before .before .write-4 .ensures)))
     (λ c. search needs)
     (λ c.
     let a = c .before .before .before .before in
     let s = a .before .before .before in
-    rw (a .enum-told4 .given .1) (stored-at (s .args .mem .now) _ (s .args .at) 8 (s .args .v) (rw (a .enum-told4 .given .1) at (s .pre)) (c .before .before .write-8 .ensures))))
+    rw (a .enum-told4 .given .1) (stored-at (s .args .mem .now) _ (s .args .at) 8 (s .args .v) (rw (a .enum-told4 .given .1) at (s .pre))
+    (c .before .before .write-8 .ensures))))

@@ -26,4 +26,10 @@ access-spec =
     (λ c. rw (c .row2 .ensures, c .before .width .ensures, c .before .before .before .a2 .given .1))
     (λ c. rw (c .row3 .ensures, c .before .enum-told .given .1))
     (λ c. rw (c .row4 .ensures, c .before .enum-told2 .given .1))
-    (λ c. rw (c .row5 .ensures, c .before .flag2 .ensures, c .before .before .flag .ensures, c .before .before .before .swap .ensures, c .before .before .before .before .before .a3 .given .1)))
+    (λ c. rw (
+      c .row5 .ensures,
+      c .before .flag2 .ensures,
+      c .before .before .flag .ensures,
+      c .before .before .before .swap .ensures,
+      c .before .before .before .before .before .a3 .given .1,
+    )))

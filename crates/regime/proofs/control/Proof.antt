@@ -11,4 +11,5 @@ returns c = rw (c .sse .ensures, c .before .mpp-mode .ensures, c .before .before
 pub control-spec : {M : Type 1} → statement M
 control-spec =
     tie.close
-    (tie.spec (λ c κs. search needs) (λ c κs. search needs) (λ c κs. search needs) (λ c. search needs) (λ c. search needs) (λ c. search needs) returns)
+    (tie.spec (λ c κs. search needs) (λ c κs. search needs) (λ c κs. search needs) (λ c. search needs) (λ c. search needs)
+    (λ c. search needs) returns)

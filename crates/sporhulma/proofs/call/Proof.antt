@@ -22,7 +22,8 @@ returns c =
     let a = i .before .before .before .before .before .before .before .args in
     let run : Run = runFrom (a .source) (a .budget) (hart (a .x .now) (a .rest .now)) (a .mem .now) (a .map .now) in
     let (answer, (left, memory)) = r .run .ensures in
-    rw (taken (a .source) (a .budget) (a .x .now) (a .rest .now) (a .mem .now) (a .map .now) (sym (i .before .run-refusal .ensures) ∙ i .if1 .taken)) (
+    rw (taken (a .source) (a .budget) (a .x .now) (a .rest .now) (a .mem .now) (a .map .now)
+    (sym (i .before .run-refusal .ensures) ∙ i .if1 .taken)) (
       refl,
       (
         ap (λ (h : Hart). h .x) left,

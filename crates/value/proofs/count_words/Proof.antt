@@ -25,7 +25,8 @@ count-words-spec =
     (λ c κs. search needs)
     (λ c κs. search needs)
     (λ c κs. search needs)
-    (λ c b. row-told _ _ (c .told .ensures) _ _ _ _ (λ w pc ssp x s m map p q. rw (c .before .before .match .keys1, p, c .before .leading-word .ensures)))
-    (λ c b. row-told _ _ (c .told2 .ensures) _ _ _ _ (λ w pc ssp x s m map p q. rw (c .before .before .match .keys2, p, c .before .trailing-word .ensures)))
-    (λ c b. row-told _ _ (c .told3 .ensures) _ _ _ _ (λ w pc ssp x s m map p q. rw (c .before .before .match .keys3, p, c .before .set-word .ensures)))
+    (λ c b. row-told _ _ (c .told .ensures) _ _ _ _ (λ _ _ _ _ _ _ _ p q. rw (c .before .before .match .keys1, p, c .before .leading-word .ensures)))
+    (λ c b. row-told _ _ (c .told2 .ensures) _ _ _ _
+    (λ _ _ _ _ _ _ _ p q. rw (c .before .before .match .keys2, p, c .before .trailing-word .ensures)))
+    (λ c b. row-told _ _ (c .told3 .ensures) _ _ _ _ (λ _ _ _ _ _ _ _ p q. rw (c .before .before .match .keys3, p, c .before .set-word .ensures)))
     (λ c b. none-told _ (c .none .ensures) _ _ _ _))

@@ -26,9 +26,13 @@ extension-32-spec =
     (λ c κs. search needs)
     (λ c κs. search needs)
     (λ c κs. search needs)
-    (λ c. row-told _ _ (c .told .ensures) _ _ _ _ (λ w pc ssp x s m map p q. rw (c .before .before .match .keys1, p, q, c .before .product-word .ensures)))
-    (λ c. row-told _ _ (c .told2 .ensures) _ _ _ _ (λ w pc ssp x s m map p q. rw (c .before .before .match .keys2, p, q, c .before .quotient-word .ensures)))
-    (λ c. row-told _ _ (c .told3 .ensures) _ _ _ _ (λ w pc ssp x s m map p q. rw (c .before .before .match .keys3, p, q, c .before .quotient-word2 .ensures)))
-    (λ c. row-told _ _ (c .told4 .ensures) _ _ _ _ (λ w pc ssp x s m map p q. rw (c .before .before .match .keys4, p, q, c .before .remainder-word .ensures)))
-    (λ c. row-told _ _ (c .told5 .ensures) _ _ _ _ (λ w pc ssp x s m map p q. rw (c .before .before .match .keys5, p, q, c .before .remainder-word2 .ensures)))
+    (λ c. row-told _ _ (c .told .ensures) _ _ _ _ (λ _ _ _ _ _ _ _ p q. rw (c .before .before .match .keys1, p, q, c .before .product-word .ensures)))
+    (λ c. row-told _ _ (c .told2 .ensures) _ _ _ _
+    (λ _ _ _ _ _ _ _ p q. rw (c .before .before .match .keys2, p, q, c .before .quotient-word .ensures)))
+    (λ c. row-told _ _ (c .told3 .ensures) _ _ _ _
+    (λ _ _ _ _ _ _ _ p q. rw (c .before .before .match .keys3, p, q, c .before .quotient-word2 .ensures)))
+    (λ c. row-told _ _ (c .told4 .ensures) _ _ _ _
+    (λ _ _ _ _ _ _ _ p q. rw (c .before .before .match .keys4, p, q, c .before .remainder-word .ensures)))
+    (λ c. row-told _ _ (c .told5 .ensures) _ _ _ _
+    (λ _ _ _ _ _ _ _ p q. rw (c .before .before .match .keys5, p, q, c .before .remainder-word2 .ensures)))
     (λ c. none-told _ (c .none .ensures) _ _ _ _))

@@ -11,13 +11,15 @@ returns-7 : tie.Need-returns-7
 unfolding opImmOf
 returns-7 c b =
     let a = c .before .before .args in
-    next-told (c .shifts .result) (opImmOf (a .f) (a .v)) (shiftOf (a .f)) (a .f) (a .a) b (hit (opImms (a .f) (a .v)) (c .before .match .keys7)) (c .shifts .ensures b)
+    next-told (c .shifts .result) (opImmOf (a .f) (a .v)) (shiftOf (a .f)) (a .f) (a .a) b (hit (opImms (a .f) (a .v)) (c .before .match .keys7))
+    (c .shifts .ensures b)
 
 returns-8 : tie.Need-returns-8
 unfolding opImmOf
 returns-8 c b =
     let a = c .before .before .args in
-    next-told (c .shifts2 .result) (opImmOf (a .f) (a .v)) (shiftOf (a .f)) (a .f) (a .a) b (hit (opImms (a .f) (a .v)) (c .before .match .keys8)) (c .shifts2 .ensures b)
+    next-told (c .shifts2 .result) (opImmOf (a .f) (a .v)) (shiftOf (a .f)) (a .f) (a .a) b (hit (opImms (a .f) (a .v)) (c .before .match .keys8))
+    (c .shifts2 .ensures b)
 
 pub op-imm-spec : {M : Type 1} → statement M
 unfolding opImmOf executeOf
@@ -42,8 +44,10 @@ op-imm-spec =
     (λ c κs. search needs)
     (λ c κs. search needs)
     (λ c b. row-told _ _ (c .told .ensures) _ _ _ _ (λ w pc ssp x s m map p q. rw (c .before .before .match .keys1, p, c .before .sum .ensures)))
-    (λ c b. row-told _ _ (c .told2 .ensures) _ _ _ _ (λ w pc ssp x s m map p q. rw (c .before .before .before .match .keys2, p, c .before .one .ensures, c .before .before .signed-less .ensures)))
-    (λ c b. row-told _ _ (c .told3 .ensures) _ _ _ _ (λ w pc ssp x s m map p q. rw (c .before .before .before .match .keys3, p, c .before .one2 .ensures, c .before .before .unsigned-less .ensures)))
+    (λ c b. row-told _ _ (c .told2 .ensures) _ _ _ _ (λ _ _ _ _ _ _ _ p q. rw
+    (c .before .before .before .match .keys2, p, c .before .one .ensures, c .before .before .signed-less .ensures)))
+    (λ c b. row-told _ _ (c .told3 .ensures) _ _ _ _ (λ _ _ _ _ _ _ _ p q. rw
+    (c .before .before .before .match .keys3, p, c .before .one2 .ensures, c .before .before .unsigned-less .ensures)))
     (λ c b. row-told _ _ (c .told4 .ensures) _ _ _ _ (λ w pc ssp x s m map p q. rw (c .before .before .match .keys4, p, c .before .xor .ensures)))
     (λ c b. row-told _ _ (c .told5 .ensures) _ _ _ _ (λ w pc ssp x s m map p q. rw (c .before .before .match .keys5, p, c .before .or .ensures)))
     (λ c b. row-told _ _ (c .told6 .ensures) _ _ _ _ (λ w pc ssp x s m map p q. rw (c .before .before .match .keys6, p, c .before .and .ensures)))

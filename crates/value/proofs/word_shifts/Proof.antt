@@ -11,7 +11,8 @@ returns-4 : tie.Need-returns-4
 unfolding wordShiftOf
 returns-4 c b =
     let a = c .before .before .before .before .before .args in
-    next-told (c .count-words .result) (wordShiftOf (a .f)) (countWordOf (a .f)) (a .f) (a .a) b (missed _ (wordShifts (a .f)) (c .before .match .rest)) (c .count-words .ensures b)
+    next-told (c .count-words .result) (wordShiftOf (a .f)) (countWordOf (a .f)) (a .f) (a .a) b
+    (missed _ (wordShifts (a .f)) (c .before .match .rest)) (c .count-words .ensures b)
 
 pub word-shifts-spec : {M : Type 1} → statement M
 unfolding wordShiftOf executeOf
@@ -30,7 +31,8 @@ word-shifts-spec =
     (λ c κs. search needs)
     (λ c κs. search needs)
     (λ c κs. search needs)
-    (λ c b. row-told _ _ (c .told .ensures) _ _ _ _ (λ w pc ssp x s m map p q. rw (c .before .before .match .keys1, p, c .before .left-word .ensures)))
-    (λ c b. row-told _ _ (c .told2 .ensures) _ _ _ _ (λ w pc ssp x s m map p q. rw (c .before .before .match .keys2, p, c .before .right-word .ensures)))
-    (λ c b. row-told _ _ (c .told3 .ensures) _ _ _ _ (λ w pc ssp x s m map p q. rw (c .before .before .match .keys3, p, c .before .arithmetic-word .ensures)))
+    (λ c b. row-told _ _ (c .told .ensures) _ _ _ _ (λ _ _ _ _ _ _ _ p q. rw (c .before .before .match .keys1, p, c .before .left-word .ensures)))
+    (λ c b. row-told _ _ (c .told2 .ensures) _ _ _ _ (λ _ _ _ _ _ _ _ p q. rw (c .before .before .match .keys2, p, c .before .right-word .ensures)))
+    (λ c b. row-told _ _ (c .told3 .ensures) _ _ _ _
+    (λ _ _ _ _ _ _ _ p q. rw (c .before .before .match .keys3, p, c .before .arithmetic-word .ensures)))
     returns-4)

@@ -41,7 +41,7 @@ mask-spec =
     (λ c. search needs)
     (λ c. search needs)
     (λ c. search needs)
-    (λ c. let b = c .before .before .before .before .before .args in omega (arith, room (b .p) (b .a) _ (c .before .before .before .power .ensures .0)))
+    (λ c. let d = c .before .before .before in let b = d .before .before .args in omega (arith, room (b .p) (b .a) _ (d .power .ensures .0)))
     copied
     clear
     bare)

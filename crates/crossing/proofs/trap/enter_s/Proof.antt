@@ -6,9 +6,12 @@ use Rattle.crossing.proofs.trap.enter_s.Tie as tie
 
 returns : tie.Need-returns
 unfolding enterS
-returns c = rw (c .word .ensures, c .before .trapped-s .ensures, c .before .before .is-supervisor .ensures, c .before .before .before .split .ensures .0)
+returns c =
+    let b = c .before .before .before in
+    rw (c .word .ensures, c .before .trapped-s .ensures, c .before .before .is-supervisor .ensures, b .split .ensures .0)
 
 pub enter-s-spec : {M : Type 1} → statement M
 enter-s-spec =
     tie.close
-    (tie.spec (λ c κs. search needs) (λ c κs. search needs) (λ c κs. search needs) (λ c κs. rw (c .trapped-s .ensures) (c .before .before .split .ensures .1)) returns)
+    (tie.spec (λ c κs. search needs) (λ c κs. search needs) (λ c κs. search needs)
+    (λ c κs. rw (c .trapped-s .ensures) (c .before .before .split .ensures .1)) returns)

@@ -21,4 +21,8 @@ zimop-spec =
     (λ c. rw (c .match .keys4))
     (λ c. rw (c .mop .ensures, c .before .match .keys5))
     (λ c. rw (← missed _ (zimops (c .before .before .args .w) (c .before .before .args .f)) (c .before .match .rest), c .if1 .taken))
-    (λ c. rw (← missed _ (zimops (c .before .before .before .args .w) (c .before .before .before .args .f)) (c .before .before .match .rest), ne-eqb _ _ (c .before .if1 .left), c .mop2 .ensures)))
+    (λ c. rw (
+      ← missed _ (zimops (c .before .before .before .args .w) (c .before .before .before .args .f)) (c .before .before .match .rest),
+      ne-eqb _ _ (c .before .if1 .left),
+      c .mop2 .ensures,
+    )))

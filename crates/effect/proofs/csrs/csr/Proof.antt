@@ -7,7 +7,9 @@ use Rattle.effect.proofs.csrs.csr.Tie as tie
 
 returns : tie.Need-returns
 unfolding csrOf reachedOf
-returns c = rw (c .operand .ensures, c .before .writes .ensures, c .before .before .field .ensures, sym (c .before .before .before .before .before .before .reach .ensures) ∙ c .before .before .before .before .n .given .1)
+returns c =
+    let b = c .before .before .before .before in
+    rw (c .operand .ensures, c .before .writes .ensures, c .before .before .field .ensures, sym (b .before .before .reach .ensures) ∙ b .n .given .1)
 
 returns-2 : tie.Need-returns-2
 unfolding csrOf reachedOf
@@ -17,12 +19,7 @@ pub csr-spec : {M : Type 1} → statement M
 csr-spec =
     tie.close
     (tie.spec
-    (λ c κs. search needs)
-    (λ c. search needs)
-    (λ c κs. search needs)
-    (λ c κs. search needs)
-    (λ c κs. search needs)
-    (λ c. search needs)
-    (λ c κs. search needs)
+    (λ c κs. search needs) (λ c. search needs) (λ c κs. search needs) (λ c κs. search needs) (λ c κs. search needs)
+    (λ c. search needs) (λ c κs. search needs)
     returns
     returns-2)

@@ -7,12 +7,7 @@ pub merged-spec : {M : Type 1} → statement M
 merged-spec =
     tie.close
     (tie.spec
-    (λ c. search needs)
-    (λ c. search needs)
-    (λ c κs. search needs)
-    (λ c. search needs)
-    (λ c. search needs)
-    (λ c κs. search needs)
-    (λ c. search needs)
+    (λ c. search needs) (λ c. search needs) (λ c κs. search needs) (λ c. search needs) (λ c. search needs)
+    (λ c κs. search needs) (λ c. search needs)
     (λ c. rw (c .or .ensures, c .before .enum-told2 .given .1))
     (λ c. rw (c .and .ensures, c .before .enum-told3 .given .1)))

@@ -6,4 +6,5 @@ use Rattle.effect.proofs.csrs.operand.Tie as tie
 pub operand-spec : {M : Type 1} → statement M
 operand-spec =
     tie.close
-    (tie.spec (λ c. search needs) (λ c κs. search needs) (λ c. search needs) (λ c. search needs) (λ c. rw (c .reg .ensures, c .before .before .source .given .1)) (λ c. search needs))
+    (tie.spec (λ c. search needs) (λ c κs. search needs) (λ c. search needs) (λ c. search needs)
+    (λ c. rw (c .reg .ensures, c .before .before .source .given .1)) (λ c. search needs))

@@ -7,20 +7,22 @@ use Rattle.effect.proofs.jump.jalr.Tie as tie
 
 returns : tie.Need-returns
 unfolding jalrOf
-returns c = rw (c .expected .ensures, c .before .needs-no-pad .ensures, ← c .before .before .before .before .sum .ensures, ← c .before .before .before .even .ensures, eq-eqb _ _ (c .before .before .if1 .taken))
+returns c =
+    let d = c .before .before .before in
+    let b = d .before in
+    rw (c .expected .ensures, c .before .needs-no-pad .ensures, ← b .sum .ensures, ← d .even .ensures, eq-eqb _ _ (c .before .before .if1 .taken))
 
 returns-2 : tie.Need-returns-2
 unfolding jalrOf
-returns-2 c = rw (c .misaligned .ensures, ← c .before .before .before .sum .ensures, ← c .before .before .even .ensures, ne-eqb _ _ (c .before .if1 .left))
+returns-2 c =
+    let b = c .before .before .before in
+    rw (c .misaligned .ensures, ← b .sum .ensures, ← c .before .before .even .ensures, ne-eqb _ _ (c .before .if1 .left))
 
 pub jalr-spec : {M : Type 1} → statement M
 jalr-spec =
     tie.close
     (tie.spec
-    (λ c κs. search needs)
-    (λ c κs. search needs)
-    (λ c κs. search needs)
-    (λ c κs. search needs)
+    (λ c κs. search needs) (λ c κs. search needs) (λ c κs. search needs) (λ c κs. search needs)
     returns
     (λ c κs. search needs)
     returns-2)

@@ -7,11 +7,7 @@ pub mret-spec : {M : Type 1} → statement M
 mret-spec =
     tie.close
     (tie.spec
-    (λ c. search needs)
-    (λ c κs. search needs)
-    (λ c. search needs)
-    (λ c κs. search needs)
-    (λ c. search needs)
+    (λ c. search needs) (λ c κs. search needs) (λ c. search needs) (λ c κs. search needs) (λ c. search needs)
     (λ c. rw (c .illegal .ensures, c .before .enum-told .given .1))
     (λ c. rw (c .illegal2 .ensures, c .before .enum-told2 .given .1))
     (λ c. rw (c .enum-told3 .given .1)))

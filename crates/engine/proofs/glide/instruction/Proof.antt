@@ -24,7 +24,8 @@ returns c =
     let t = c .before .before .before in
     let st = t .before .before .before .before .before .before in
     let a = st .args in
-    quickly (a .pc) (a .x .now) (a .w .now) (a .mem .now) (st .pre .1) (a .map .now) (a .word) (st .pre .3) (t .word .result .done) (t .word .result .pc) (t .word .last .1 .0) (t .word .last .1 .1 .0) (t .word .last .1 .1 .1 .1 .1 .0) (rw (st .pre .2 .0) at (t .word .ensures))
+    quickly (a .pc) (a .x .now) (a .w .now) (a .mem .now) (st .pre .1) (a .map .now) (a .word) (st .pre .3) (t .word .result .done)
+    (t .word .result .pc) (t .word .last .1 .0) (t .word .last .1 .1 .0) (t .word .last .1 .1 .1 .1 .1 .0) (rw (st .pre .2 .0) at (t .word .ensures))
 
 returns-2 : tie.Need-returns-2
 returns-2 c =

@@ -56,7 +56,8 @@ module _ (c : tie.After-stretch Inv-loop μ-loop) where
   midway : Midway whole (first .args .budget) (c .stretch .result .left) Fetch stretched (c .stretch .last .1 .1 .1 .1 .1 .0) (first .args .map .now)
   midway =
       let l = stands .loop in
-      joined _ _ (l .left) _ Fetch (hartAt (l .pc) (l .x) (l .w)) stretched (l .mem) (c .stretch .last .1 .1 .1 .1 .1 .0) _ (l .inv .3) (c .stretch .ensures .0)
+      joined _ _ (l .left) _ Fetch (hartAt (l .pc) (l .x) (l .w)) stretched (l .mem) (c .stretch .last .1 .1 .1 .1 .1 .0) _ (l .inv .3)
+      (c .stretch .ensures .0)
 
 returns : tie.Need-returns Inv-loop μ-loop
 returns c = let s = c .before .before .before .before .before .before in (midway s, (s .stretch .ensures .1 .0, said s))

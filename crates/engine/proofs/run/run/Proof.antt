@@ -67,10 +67,12 @@ module _ (o : tie.After-one Inv-loop μ-loop) where
   step-len = o .one .kept .1 .1 .1 .1 .0 ∙ len before
 
   onward : o .one .result .trapped ≡ false
-      → Midway (whole before) (first before .args .budget) (before .glide .result - 1) Fetch (hart (o .one .last .0) (o .one .last .1 .0)) (o .one .last .1 .1 .1 .1 .0) (first before .args .map .now)
+      → Midway (whole before) (first before .args .budget) (before .glide .result - 1) Fetch (hart (o .one .last .0) (o .one .last .1 .0))
+      (o .one .last .1 .1 .1 .1 .0) (first before .args .map .now)
   onward q =
       let e = o .one .ensures in
-      goes-on _ _ _ _ (glided before) (before .glide .last .1 .1 .1 .1 .0) _ (midway before) some _ _ _ _ _ (e .0) (e .1 .0) (e .1 .1 .0) (e .1 .1 .1 .0 .0) (e .1 .1 .1 .0 .1) q
+      goes-on _ _ _ _ (glided before) (before .glide .last .1 .1 .1 .1 .0) _ (midway before) some _ _ _ _ _ (e .0) (e .1 .0) (e .1 .1 .0)
+      (e .1 .1 .1 .0 .0) (e .1 .1 .1 .0 .1) q
 
   last : o .one .result .trapped ≡ true
       → whole before
@@ -83,7 +85,8 @@ module _ (o : tie.After-one Inv-loop μ-loop) where
       }
   last q =
       let e = o .one .ensures in
-      ends _ _ _ _ (glided before) (before .glide .last .1 .1 .1 .1 .0) _ (midway before) some _ _ _ _ _ (e .0) (e .1 .0) (e .1 .1 .0) (e .1 .1 .1 .0 .0) (e .1 .1 .1 .0 .1) q
+      ends _ _ _ _ (glided before) (before .glide .last .1 .1 .1 .1 .0) _ (midway before) some _ _ _ _ _ (e .0) (e .1 .0) (e .1 .1 .0)
+      (e .1 .1 .1 .0 .0) (e .1 .1 .1 .0 .1) q
 
   kept : o .one .result .switched ≡ false → Knows (loop before .loop .k) (settingOf (o .one .last .1 .0))
   kept q = rw (o .one .ensures .1 .1 .1 .1 q, before .glide .ensures .1) (loop before .loop .inv .1)
@@ -116,7 +119,8 @@ loop-again-2 c =
 returns-3 : tie.Need-returns-3 Inv-loop μ-loop
 returns-3 c =
     let l = c .before .before .loop in
-    rw (spent _ _ (l .left) (l .from) (hart (l .x) (l .w)) (l .mem) _ (l .inv .2) (c .before .loop-test .left), c .report3 .ensures) (refl, (refl, refl))
+    rw (spent _ _ (l .left) (l .from) (hart (l .x) (l .w)) (l .mem) _ (l .inv .2) (c .before .loop-test .left), c .report3 .ensures)
+    (refl, (refl, refl))
 
 pub run-spec : {M : Type 1} → statement M
 run-spec =

@@ -4,4 +4,6 @@ use Rattle.execute.proofs.instruction.branch.Statement.{statement}
 use Rattle.execute.proofs.instruction.branch.Tie as tie
 
 pub branch-spec : {M : Type 1} → statement M
-branch-spec = tie.close (tie.spec (λ c κs. search needs) (λ c κs. search needs) (λ c κs. search needs) (λ c. rw (c .branch .ensures, c .before .sum .ensures, c .before .before .condition .ensures)))
+branch-spec =
+    tie.close (tie.spec (λ c κs. search needs) (λ c κs. search needs) (λ c κs. search needs)
+    (λ c. rw (c .branch .ensures, c .before .sum .ensures, c .before .before .condition .ensures)))

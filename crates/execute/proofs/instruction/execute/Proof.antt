@@ -18,35 +18,51 @@ returns-3 c = rw (c .sum2 .ensures, c .before .before .i2 .given .1, c .before .
 
 returns-4 : tie.Need-returns-4
 unfolding executeOf
-returns-4 c = rw (c .jal .ensures, c .before .sum3 .ensures, c .before .before .before .i3 .given .1, c .before .before .before .before .before .before .sum .ensures)
+returns-4 c =
+    let b = c .before .before .before .before .before .before in
+    rw (c .jal .ensures, c .before .sum3 .ensures, c .before .before .before .i3 .given .1, b .sum .ensures)
 
 returns-5 : tie.Need-returns-5
 unfolding executeOf
-returns-5 c = rw (c .jalr .ensures, c .before .reg .ensures, c .before .before .before .i4 .given .1, c .before .before .before .before .before .before .sum .ensures)
+returns-5 c =
+    let b = c .before .before .before .before .before .before in
+    rw (c .jalr .ensures, c .before .reg .ensures, c .before .before .before .i4 .given .1, b .sum .ensures)
 
 returns-6 : tie.Need-returns-6
 unfolding executeOf
-returns-6 c = rw (c .branch .ensures, c .before .reg3 .ensures, c .before .before .reg2 .ensures, c .before .before .before .before .i5 .given .1, c .before .before .before .before .before .before .before .sum .ensures)
+returns-6 c =
+    let b = c .before .before .before .before in
+    rw (c .branch .ensures, c .before .reg3 .ensures, c .before .before .reg2 .ensures, b .i5 .given .1, b .before .before .before .sum .ensures)
 
 returns-7 : tie.Need-returns-7
 unfolding executeOf
-returns-7 c = rw (c .access .ensures, c .before .reg5 .ensures, c .before .before .reg4 .ensures, c .before .before .before .before .i6 .given .1, c .before .before .before .before .before .before .before .sum .ensures)
+returns-7 c =
+    let b = c .before .before .before .before in
+    rw (c .access .ensures, c .before .reg5 .ensures, c .before .before .reg4 .ensures, b .i6 .given .1, b .before .before .before .sum .ensures)
 
 returns-8 : tie.Need-returns-8
 unfolding executeOf
-returns-8 c = rw (c .op .ensures, c .before .reg6 .ensures, c .before .before .before .i7 .given .1, c .before .before .before .before .before .before .sum .ensures)
+returns-8 c =
+    let b = c .before .before .before .before .before .before in
+    rw (c .op .ensures, c .before .reg6 .ensures, c .before .before .before .i7 .given .1, b .sum .ensures)
 
 returns-9 : tie.Need-returns-9
 unfolding executeOf
-returns-9 c = rw (c .op-32 .ensures, c .before .reg7 .ensures, c .before .before .before .i8 .given .1, c .before .before .before .before .before .before .sum .ensures)
+returns-9 c =
+    let b = c .before .before .before .before .before .before in
+    rw (c .op-32 .ensures, c .before .reg7 .ensures, c .before .before .before .i8 .given .1, b .sum .ensures)
 
 returns-10 : tie.Need-returns-10
 unfolding executeOf
-returns-10 c = rw (c .op2 .ensures, c .before .reg9 .ensures, c .before .before .reg8 .ensures, c .before .before .before .before .i9 .given .1, c .before .before .before .before .before .before .before .sum .ensures)
+returns-10 c =
+    let b = c .before .before .before .before .before .before .before in
+    rw (c .op2 .ensures, c .before .reg9 .ensures, c .before .before .reg8 .ensures, c .before .before .before .before .i9 .given .1, b .sum .ensures)
 
 returns-11 : tie.Need-returns-11
 unfolding executeOf
-returns-11 c = rw (c .op-322 .ensures, c .before .reg11 .ensures, c .before .before .reg10 .ensures, c .before .before .before .before .i10 .given .1, c .before .before .before .before .before .before .before .sum .ensures)
+returns-11 c =
+    let b = c .before .before .before .before in
+    rw (c .op-322 .ensures, c .before .reg11 .ensures, c .before .before .reg10 .ensures, b .i10 .given .1, b .before .before .before .sum .ensures)
 
 returns-12 : tie.Need-returns-12
 unfolding executeOf
@@ -88,55 +104,16 @@ pub execute-spec : {M : Type 1} → statement M
 execute-spec =
     tie.close
     (tie.spec
-    (λ c κs. search needs)
-    (λ c. search needs)
-    (λ c κs. search needs)
-    (λ c. search needs)
-    (λ c. search needs)
-    (λ c κs. search needs)
-    (λ c. search needs)
-    (λ c κs. search needs)
-    (λ c κs. search needs)
-    (λ c. search needs)
-    (λ c κs. search needs)
-    (λ c κs. search needs)
-    (λ c. search needs)
-    (λ c κs. search needs)
-    (λ c κs. search needs)
-    (λ c κs. search needs)
-    (λ c. search needs)
-    (λ c κs. search needs)
-    (λ c κs. search needs)
-    (λ c κs. search needs)
-    (λ c. search needs)
-    (λ c κs. search needs)
-    (λ c κs. search needs)
-    (λ c. search needs)
-    (λ c κs. search needs)
-    (λ c κs. search needs)
-    (λ c. search needs)
-    (λ c κs. search needs)
-    (λ c κs. search needs)
-    (λ c κs. search needs)
-    (λ c. search needs)
-    (λ c κs. search needs)
-    (λ c κs. search needs)
-    (λ c κs. search needs)
-    (λ c. search needs)
-    (λ c. search needs)
-    (λ c κs. search needs)
-    (λ c. search needs)
-    (λ c κs. search needs)
-    (λ c. search needs)
-    (λ c κs. search needs)
-    (λ c. search needs)
-    (λ c κs. search needs)
-    (λ c. search needs)
-    (λ c κs. search needs)
-    (λ c. search needs)
-    (λ c κs. search needs)
-    (λ c. search needs)
-    (λ c. search needs)
+    (λ c κs. search needs) (λ c. search needs) (λ c κs. search needs) (λ c. search needs) (λ c. search needs)
+    (λ c κs. search needs) (λ c. search needs) (λ c κs. search needs) (λ c κs. search needs) (λ c. search needs)
+    (λ c κs. search needs) (λ c κs. search needs) (λ c. search needs) (λ c κs. search needs) (λ c κs. search needs)
+    (λ c κs. search needs) (λ c. search needs) (λ c κs. search needs) (λ c κs. search needs) (λ c κs. search needs)
+    (λ c. search needs) (λ c κs. search needs) (λ c κs. search needs) (λ c. search needs) (λ c κs. search needs)
+    (λ c κs. search needs) (λ c. search needs) (λ c κs. search needs) (λ c κs. search needs) (λ c κs. search needs)
+    (λ c. search needs) (λ c κs. search needs) (λ c κs. search needs) (λ c κs. search needs) (λ c. search needs)
+    (λ c. search needs) (λ c κs. search needs) (λ c. search needs) (λ c κs. search needs) (λ c. search needs)
+    (λ c κs. search needs) (λ c. search needs) (λ c κs. search needs) (λ c. search needs) (λ c κs. search needs)
+    (λ c. search needs) (λ c κs. search needs) (λ c. search needs) (λ c. search needs)
     returns
     returns-2
     returns-3

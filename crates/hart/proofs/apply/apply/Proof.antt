@@ -13,21 +13,9 @@ pub apply-spec : {M : Type 1} → statement M
 apply-spec =
     tie.close
     (tie.spec
-    (λ c. search needs)
-    (λ c κs. search needs)
-    (λ c. search needs)
-    (λ c κs. search needs)
-    (λ c. search needs)
-    (λ c κs. search needs)
-    (λ c. search needs)
-    (λ c κs. search needs)
-    (λ c. search needs)
-    (λ c κs. search needs)
-    (λ c. search needs)
-    (λ c. search needs)
-    (λ c. search needs)
-    (λ c κs. search needs)
-    (λ c. search needs)
+    (λ c. search needs) (λ c κs. search needs) (λ c. search needs) (λ c κs. search needs) (λ c. search needs)
+    (λ c κs. search needs) (λ c. search needs) (λ c κs. search needs) (λ c. search needs) (λ c κs. search needs)
+    (λ c. search needs) (λ c. search needs) (λ c. search needs) (λ c κs. search needs) (λ c. search needs)
     (λ c κs. fits _ _ _ (c .before .before .e4 .given .1) (c .before .before .before .before .before .pre) .0)
     (λ c κs.
     let b = c .before .before .before in
@@ -41,29 +29,15 @@ apply-spec =
     let b = c .before .before .before in
     let s = fits _ _ _ (b .e5 .given .1) (b .before .before .before .pre) in
     omega (arith, c .index2 .ensures, s .0, s .1))
-    (λ c. search needs)
-    (λ c. search needs)
-    (λ c κs. search needs)
-    (λ c. search needs)
-    (λ c. search needs)
-    (λ c. search needs)
-    (λ c κs. search needs)
-    (λ c. search needs)
+    (λ c. search needs) (λ c. search needs) (λ c κs. search needs) (λ c. search needs) (λ c. search needs)
+    (λ c. search needs) (λ c κs. search needs) (λ c. search needs)
     (λ c κs. fits _ _ _ (c .before .before .e7 .given .1) (c .before .before .before .before .before .pre) .0)
     (λ c κs.
     let b = c .before .before .before in
     let s = fits _ _ _ (b .e7 .given .1) (b .before .before .before .pre) in
     omega (arith, c .index3 .ensures, s .0, s .1))
-    (λ c κs. search needs)
-    (λ c. search needs)
-    (λ c κs. search needs)
-    (λ c. search needs)
-    (λ c κs. search needs)
-    (λ c κs. search needs)
-    (λ c. search needs)
-    (λ c. search needs)
-    (λ c κs. search needs)
-    (λ c κs. search needs)
+    (λ c κs. search needs) (λ c. search needs) (λ c κs. search needs) (λ c. search needs) (λ c κs. search needs)
+    (λ c κs. search needs) (λ c. search needs) (λ c. search needs) (λ c κs. search needs) (λ c κs. search needs)
     (λ c.
     rw (c .before .before .before .before .e .given .1, c .before .put .ensures, c .says .ensures)
     (refl, (refl, (refl, ((refl, refl), λ z. setting-kept PC _ _ refl)))))

@@ -21,10 +21,7 @@ pub one-spec : {M : Type 1} → statement M
 one-spec =
     tie.close
     (tie.spec
-    (λ c. search needs)
-    (λ c. search needs)
-    (λ c. search needs)
-    (λ c κs. search needs)
+    (λ c. search needs) (λ c. search needs) (λ c. search needs) (λ c κs. search needs)
     (λ c κs. fits _ _ _ (sym (c .before .before .before .plan .ensures)) (effect-stays _ _ _ _ _ _ _ _))
     (λ c. search needs)
     returns)

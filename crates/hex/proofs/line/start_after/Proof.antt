@@ -23,7 +23,11 @@ half-requires-2 c κs =
 returns : tie.Need-returns
 unfolding startAfter
 returns c =
-    rw (eq-eqb _ 5 (sym (c .before .before .before .byte .ensures .0) ∙ c .before .before .if1 .taken), c .half2 .ensures .0, c .before .half .ensures .0)
+    rw (
+      eq-eqb _ 5 (sym (c .before .before .before .byte .ensures .0) ∙ c .before .before .if1 .taken),
+      c .half2 .ensures .0,
+      c .before .half .ensures .0,
+    )
 
 returns-2 : tie.Need-returns-2
 unfolding startAfter
@@ -32,4 +36,5 @@ returns-2 c = rw (ne-eqb _ 5 (λ e. c .if1 .left (c .before .byte .ensures .0 �
 pub start-after-spec : {M : Type 1} → statement M
 start-after-spec =
     tie.close
-    (tie.spec (λ c κs. let (x, n) = long _ (c .before .pre .1) in (c .before .pre .0, x, omega arith)) half-requires (λ c. search needs) half-requires-2 (λ c. search needs) returns returns-2)
+    (tie.spec (λ c κs. let (x, n) = long _ (c .before .pre .1) in (c .before .pre .0, x, omega arith)) half-requires
+    (λ c. search needs) half-requires-2 (λ c. search needs) returns returns-2)

@@ -17,8 +17,11 @@ half-requires c κs =
 returns : tie.Need-returns
 unfolding upperAfter
 returns c =
-    let b = c .before .before in
-    (c .half .ensures .0 ∙ sym (first _ _ _ (eq-eqb (kindOf (b .before .before .args .line .now)) 4 (sym (b .byte .ensures .0) ∙ c .before .if1 .taken))), c .half .ensures .1)
+    let b = c .before .before in (
+      c .half .ensures .0 ∙ sym (first _ _ _ (eq-eqb (kindOf (b .before .before .args .line .now)) 4
+          (sym (b .byte .ensures .0) ∙ c .before .if1 .taken))),
+      c .half .ensures .1,
+    )
 
 returns-2 : tie.Need-returns-2
 unfolding upperAfter
@@ -28,4 +31,5 @@ returns-2 c =
     (sym (second _ _ _ (ne-eqb (kindOf (s .args .line .now)) 4 (λ e. c .if1 .left (b .byte .ensures .0 ∙ e)))), s .pre .2)
 
 pub upper-after-spec : {M : Type 1} → statement M
-upper-after-spec = tie.close (tie.spec (λ c κs. let (x, n) = long _ (c .before .pre .1) in (c .before .pre .0, x, omega arith)) half-requires returns returns-2)
+upper-after-spec =
+    tie.close (tie.spec (λ c κs. let (x, n) = long _ (c .before .pre .1) in (c .before .pre .0, x, omega arith)) half-requires returns returns-2)

@@ -13,8 +13,10 @@ add-result-2 c =
 
 returns : tie.Need-returns
 returns c =
-    let s = c .before .before in
-    (both-are (s .args .t .now) (s .pre) (s .args .high) (s .args .low) (omega arith) (omega arith), both-most (s .args .t .now) (s .pre) (s .args .high) (s .args .low) (omega arith) (omega arith))
+    let s = c .before .before in (
+      both-are (s .args .t .now) (s .pre) (s .args .high) (s .args .low) (omega arith) (omega arith),
+      both-most (s .args .t .now) (s .pre) (s .args .high) (s .args .low) (omega arith) (omega arith),
+    )
 
 pub both-spec : {M : Type 1} → statement M
 both-spec =

@@ -16,8 +16,11 @@ abbrev μ-loop : tie.MeasureT-loop
 
 loop-again : tie.Need-loop-again Inv-loop μ-loop
 loop-again c =
-    let a = c .before .before in
-    (omega arith, filled-more (a .loop .t) (a .loop .b) (c .digit .result) (a .loop .inv .1) (omega (arith, c .before .loop-test .taken)) (c .digit .ensures .0))
+    let a = c .before .before in (
+      omega arith,
+      filled-more (a .loop .t) (a .loop .b) (c .digit .result) (a .loop .inv .1) (omega (arith, c .before .loop-test .taken))
+          (c .digit .ensures .0),
+    )
 
 returns : tie.Need-returns Inv-loop μ-loop
 returns c =

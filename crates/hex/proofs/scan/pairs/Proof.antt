@@ -20,8 +20,10 @@ loop-again c =
     let n = c .before .before .loop-test .taken in
     let e : a .loop .i + 2 + 2 ≡ a .loop .i + 4 = omega arith in
     let b = c .before .any in
-    let k = along-more (s .args .text .now) (s .args .from) (s .args .stop) (a .loop .i) (a .loop .sum) (b .result) (a .loop .inv) (omega arith) (omega (arith, s .pre .3)) (b .ensures .0) (s .pre .2) in
-    rw e at (along-more (s .args .text .now) (s .args .from) (s .args .stop) (a .loop .i + 2) (a .loop .sum + b .result) (c .any2 .result) k n (omega (arith, a .loop .inv .even, s .pre .3)) (c .any2 .ensures .0) (s .pre .2))
+    let k = along-more (s .args .text .now) (s .args .from) (s .args .stop) (a .loop .i) (a .loop .sum) (b .result) (a .loop .inv) (omega arith)
+    (omega (arith, s .pre .3)) (b .ensures .0) (s .pre .2) in
+    rw e at (along-more (s .args .text .now) (s .args .from) (s .args .stop) (a .loop .i + 2) (a .loop .sum + b .result) (c .any2 .result) k n
+    (omega (arith, a .loop .inv .even, s .pre .3)) (c .any2 .ensures .0) (s .pre .2))
 
 returns : tie.Need-returns Inv-loop μ-loop
 returns c =
@@ -30,14 +32,17 @@ returns c =
     let a = l .before in
     let s = a .before .before in
     let n = c .before .before .if1 .taken in
-    let k = along-more (s .args .text .now) (s .args .from) (s .args .stop) (a .loop .i) (a .loop .sum) (b .result) (a .loop .inv) n (omega (arith, a .loop .inv .even, s .pre .3)) (b .ensures .0) (s .pre .2) in
-    judged (s .args .text .now) (s .args .from) (s .args .stop) (a .loop .i + 2) (a .loop .sum + b .result) k (l .loop-test .left) _ (c .judged .ensures .0) (c .judged .ensures .1)
+    let k = along-more (s .args .text .now) (s .args .from) (s .args .stop) (a .loop .i) (a .loop .sum) (b .result) (a .loop .inv) n
+    (omega (arith, a .loop .inv .even, s .pre .3)) (b .ensures .0) (s .pre .2) in
+    judged (s .args .text .now) (s .args .from) (s .args .stop) (a .loop .i + 2) (a .loop .sum + b .result) k (l .loop-test .left) _
+    (c .judged .ensures .0) (c .judged .ensures .1)
 
 returns-2 : tie.Need-returns-2 Inv-loop μ-loop
 returns-2 c =
     let a = c .before .before .before in
     let s = a .before .before .args in
-    judged (s .text .now) (s .from) (s .stop) (a .loop .i) (a .loop .sum) (a .loop .inv) (c .before .if1 .left) _ (c .judged2 .ensures .0) (c .judged2 .ensures .1)
+    judged (s .text .now) (s .from) (s .stop) (a .loop .i) (a .loop .sum) (a .loop .inv) (c .before .if1 .left) _ (c .judged2 .ensures .0)
+    (c .judged2 .ensures .1)
 
 pub pairs-spec : {M : Type 1} → statement M
 pairs-spec =

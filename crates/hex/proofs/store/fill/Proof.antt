@@ -25,14 +25,16 @@ loop-again c =
     let s = a .before .before .before in (
       omega arith,
       simp length-set (a .loop .inv .1),
-      fill-turn (s .args .line .now) (s .args .count) (s .pre .2) (a .loop .mem) (s .args .to) (a .loop .k) (c .byte .result) (c .before .loop-test .taken) (c .byte .ensures .0) ∙ a .loop .inv .2,
+      fill-turn (s .args .line .now) (s .args .count) (s .pre .2) (a .loop .mem) (s .args .to) (a .loop .k) (c .byte .result)
+          (c .before .loop-test .taken) (c .byte .ensures .0) ∙ a .loop .inv .2,
     )
 
 returns : tie.Need-returns Inv-loop μ-loop
 returns c =
     let a = c .before in
     let s = a .before .before .before in
-    fill-end (s .args .line .now) (s .args .count) (s .pre .2) (a .loop .mem) (s .args .to + a .loop .k) (a .loop .k) (c .loop-test .left) ∙ a .loop .inv .2
+    fill-end (s .args .line .now) (s .args .count) (s .pre .2) (a .loop .mem) (s .args .to + a .loop .k) (a .loop .k) (c .loop-test .left)
+    ∙ a .loop .inv .2
 
 pub fill-spec : {M : Type 1} → statement M
 fill-spec =

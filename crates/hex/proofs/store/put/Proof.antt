@@ -15,13 +15,16 @@ module _ (c : tie.After-half) where
   kind = sym (c .before .before .before .byte2 .ensures .0) ∙ c .before .before .if1 .taken
 
   inside : (0x8000_0000 ≤ c .before .before .before .before .before .before .before .args .upper * 65536 + c .half .result)
-      × (c .before .before .before .before .before .before .before .args .upper * 65536 + c .half .result + c .before .before .before .before .byte .result ≤ 0x8000_0000 + length (c .before .before .before .before .before .before .before .args .mem .now))
+      × (c .before .before .before .before .before .before .before .args .upper * 65536 + c .half .result
+      + c .before .before .before .before .byte .result ≤ 0x8000_0000 + length
+      (c .before .before .before .before .before .before .before .args .mem .now))
   unfolding addressOf
   inside =
       let s = c .before .before .before .before .before .before .before in
       let o = c .half .ensures .0 in
       let n = c .before .before .before .before .byte .ensures .0 in
-      let (p, q) = data-inside (length (s .args .mem .now)) (s .args .upper) (s .args .line .now) (s .pre .1) kind (omega (arith, c .before .if2 .taken)) in
+      let (p, q) = data-inside (length (s .args .mem .now)) (s .args .upper) (s .args .line .now) (s .pre .1) kind
+      (omega (arith, c .before .if2 .taken)) in
       (omega arith, omega arith)
 
 fill-requires : tie.Need-fill-requires
@@ -37,13 +40,15 @@ returns c =
     let i = c .before .before .before .before in
     let s = i .before .before .before .before .before .before .before in
     c .before .before .fill .ensures
-    ∙ rw (i .half .ensures .0, i .before .before .before .before .byte .ensures .0) (placed-data (s .args .upper) (s .args .line .now) (s .args .mem .now) (kind i))
+    ∙ rw (i .half .ensures .0, i .before .before .before .before .byte .ensures .0)
+    (placed-data (s .args .upper) (s .args .line .now) (s .args .mem .now) (kind i))
 
 returns-2 : tie.Need-returns-2
 returns-2 c =
     let b = c .before .before in
     let s = b .before .before .before .before in
-    placed-none (s .args .upper) (s .args .line .now) (s .args .mem .now) (sym (b .byte2 .ensures .0) ∙ c .before .if1 .taken) (sym (b .before .byte .ensures .0) ∙ omega arith)
+    placed-none (s .args .upper) (s .args .line .now) (s .args .mem .now) (sym (b .byte2 .ensures .0) ∙ c .before .if1 .taken)
+    (sym (b .before .byte .ensures .0) ∙ omega arith)
 
 returns-3 : tie.Need-returns-3
 returns-3 c =
@@ -58,7 +63,8 @@ put-spec =
     (λ c κs. let s = c .before .before in let (x, n) = long _ (well-formed _ _ _ (s .pre .1)) in (s .pre .0, x, omega arith))
     (λ c κs. let s = c .before .before .before in let (x, n) = long _ (well-formed _ _ _ (s .pre .1)) in (s .pre .0, x, omega arith))
     (λ c. search needs)
-    (λ c κs. let s = c .before .before .before .before .before .before in let (x, n) = long _ (well-formed _ _ _ (s .pre .1)) in (s .pre .0, x, omega arith))
+    (λ c κs. let s = c .before .before .before .before .before .before in let (x, n) = long _ (well-formed _ _ _ (s .pre .1)) in
+    (s .pre .0, x, omega arith))
     (λ c. search needs)
     (λ c. inside c .0)
     fill-requires

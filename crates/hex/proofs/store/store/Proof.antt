@@ -35,7 +35,9 @@ any-requires c κs =
 
 -- the line that the count tells, and where it ends
 module _ (c : tie.After-any Inv-loop μ-loop) where
-  line : Whole (c .before .before .before .before .before .args .text .now) (c .before .before .loop .at) (c .before .before .loop .at + (11 + 2 * c .any .result)) (length (c .before .before .before .before .before .args .mem .now)) (c .before .before .loop .upper)
+  line : Whole (c .before .before .before .before .before .args .text .now) (c .before .before .loop .at)
+      (c .before .before .loop .at + (11 + 2 * c .any .result)) (length (c .before .before .before .before .before .args .mem .now))
+      (c .before .before .loop .upper)
   line =
       let a = c .before .before in
       let s = a .before .before .before .args in

@@ -1,4 +1,5 @@
--- `hex::verdict::first_bad` meets its contract: the first bad line is that of the lines from `at` on, read with what the lines before said. Assumes nothing.
+-- `hex::verdict::first_bad` meets its contract: the first bad line is that of the lines from `at` on, read with what the lines before said. Assumes
+-- nothing.
 use mathlib.Core.List.{List}
 use mathlib.Core.Path.{_≡_, refl, sym, ap, _∙_}
 use Prim.Native.Nat.{ℕ, _≤_, _-_, _+_, _*_}
@@ -31,20 +32,33 @@ returns c =
     let r = c .before .before .read .ensures in
     let a = c .before .before .before .before in
     let s = a .before .before .args in (
-      sym (a .loop .inv .4 ∙ bad-line (s .len) (a .loop .upper) (some (s .text .now) (a .loop .at) (c .before .before .before .loop-test .taken)) (a .loop .n) (read-bad (s .text .now) (a .loop .at) _ _ _ r (c .if1 .taken) (s .len) (a .loop .upper))),
+      sym (a .loop .inv .4 ∙ bad-line (s .len) (a .loop .upper) (some (s .text .now) (a .loop .at) (c .before .before .before .loop-test .taken))
+          (a .loop .n) (read-bad (s .text .now) (a .loop .at) _ _ _ r (c .if1 .taken) (s .len) (a .loop .upper))),
       λ z. absurd (omega arith),
     )
 
 -- a line that has the sum 0
 module _ (c : tie.Else1 Inv-loop μ-loop) where
-  cut : Cut (c .before .before .before .before .before .before .args .text .now) (c .before .before .before .before .loop .at) (c .before .before .read .result .stop) (c .before .before .read .result .next)
-  cut = c .before .before .read .ensures .cut (omega arith)
+  abbrev read : tie.After-read Inv-loop μ-loop
+  read = c .before .before
 
-  zero : sumOf (take (c .before .before .read .result .stop - c .before .before .before .before .loop .at) (drop (c .before .before .before .before .loop .at) (c .before .before .before .before .before .before .args .text .now))) ≡ 0
-  zero = ap sumOf (sym (parts (cut .lines) .0)) ∙ c .before .before .read .ensures .sum (omega arith) ∙ c .if1 .left
+  abbrev loop : tie.At-loop Inv-loop μ-loop
+  loop = read .before .before
 
-  long : length (take (c .before .before .read .result .stop - c .before .before .before .before .loop .at) (drop (c .before .before .before .before .loop .at) (c .before .before .before .before .before .before .args .text .now))) ≡ 2 * countOf (take (c .before .before .read .result .stop - c .before .before .before .before .loop .at) (drop (c .before .before .before .before .loop .at) (c .before .before .before .before .before .before .args .text .now))) + 11
-  long = rw (parts (cut .lines) .0) at (c .before .before .read .ensures .long (omega arith))
+  abbrev text : List ℕ
+  text = loop .before .before .args .text .now
+
+  abbrev line : List ℕ
+  line = take (read .read .result .stop - loop .loop .at) (drop (loop .loop .at) text)
+
+  cut : Cut text (loop .loop .at) (read .read .result .stop) (read .read .result .next)
+  cut = read .read .ensures .cut (omega arith)
+
+  zero : sumOf line ≡ 0
+  zero = ap sumOf (sym (parts (cut .lines) .0)) ∙ read .read .ensures .sum (omega arith) ∙ c .if1 .left
+
+  long : length line ≡ 2 * countOf line + 11
+  long = rw (parts (cut .lines) .0) at (read .read .ensures .long (omega arith))
 
 is-good-requires : tie.Need-is-good-requires Inv-loop μ-loop
 is-good-requires c κs =
@@ -55,8 +69,11 @@ is-good-requires c κs =
 -- it is good
 upper-after-requires : tie.Need-upper-after-requires Inv-loop μ-loop
 upper-after-requires c κs =
-    let a = c .before .before .before .before .before .before .before in
-    (a .before .before .pre .0, well-formed (a .before .before .args .len) (a .loop .upper) _ (sym (c .before .is-good .ensures) ∙ c .if2 .taken), a .loop .inv .3)
+    let a = c .before .before .before .before .before .before .before in (
+      a .before .before .pre .0,
+      well-formed (a .before .before .args .len) (a .loop .upper) _ (sym (c .before .is-good .ensures) ∙ c .if2 .taken),
+      a .loop .inv .3,
+    )
 
 -- the end record
 returns-2 : tie.Need-returns-2 Inv-loop μ-loop
@@ -68,10 +85,12 @@ returns-2 c =
     let s = a .before .before .args in
     let more = linesOf (drop (i .before .before .before .before .before .read .result .next) (s .text .now)) in
     let e = sym (c .before .before .byte .ensures .0) ∙ c .before .if3 .taken in (
-      c .later .ensures ∙ sym (a .loop .inv .4 ∙ end-line (s .len) (a .loop .upper) (k .lines) (a .loop .n) (sym (i .before .is-good .ensures) ∙ i .if2 .taken) e),
+      c .later .ensures ∙ sym (a .loop .inv .4 ∙ end-line (s .len) (a .loop .upper) (k .lines) (a .loop .n)
+          (sym (i .before .is-good .ensures) ∙ i .if2 .taken) e),
       λ z.
           let f = no-text (a .loop .n + 1) more (omega arith) (sym (c .later .ensures) ∙ z) in
-          c .before .before .before .start-after .ensures ∙ sym (a .loop .inv .5 ∙ start-line (s .len) (a .loop .upper) (k .lines) (a .loop .start) ∙ ap (lastStart _) f),
+          c .before .before .before .start-after .ensures
+          ∙ sym (a .loop .inv .5 ∙ start-line (s .len) (a .loop .upper) (k .lines) (a .loop .start) ∙ ap (lastStart _) f),
     )
 
 -- a good line before it
@@ -87,7 +106,8 @@ loop-again c =
       omega (arith, k .on),
       u .1,
       a .loop .inv .4
-          ∙ good-line (s .len) (a .loop .upper) (k .lines) (a .loop .n) (sym (i .before .is-good .ensures) ∙ i .if2 .taken) (λ z. c .if3 .left (c .before .byte .ensures .0 ∙ z))
+          ∙ good-line (s .len) (a .loop .upper) (k .lines) (a .loop .n) (sym (i .before .is-good .ensures) ∙ i .if2 .taken)
+          (λ z. c .if3 .left (c .before .byte .ensures .0 ∙ z))
           ∙ rw (← u .0) refl,
       a .loop .inv .5 ∙ start-line (s .len) (a .loop .upper) (k .lines) (a .loop .start) ∙ rw (← c .before .before .start-after .ensures) refl,
     )
@@ -127,7 +147,8 @@ first-bad-spec =
     upper-after-requires
     (λ c κs. let (x, w, _) = upper-after-requires (c .before) κs in (x, w))
     (λ c. search needs)
-    (λ c κs. let (x, n) = paired _ (zero (c .before .before .before .before .before)) in (upper-after-requires (c .before .before) κs .0, x, omega arith))
+    (λ c κs. let (x, n) = paired _ (zero (c .before .before .before .before .before)) in
+    (upper-after-requires (c .before .before) κs .0, x, omega arith))
     (λ c κs. search needs)
     returns-2
     (λ c. omega (arith, cut (c .before .before .before .before .before .before .before)))

@@ -13,7 +13,20 @@ compared-spec =
     (λ c κs. search needs)
     (λ c κs. search needs)
     (λ c κs. search needs)
-    (λ c. (c .passed .ensures .0, ((λ e. c .passed .ensures .1), (λ ne. absurd (ne (c .before .before .before .same .ensures .0 (c .before .before .if1 .taken)))))))
+    (λ c. (
+      c .passed .ensures .0,
+      (
+        (λ e. c .passed .ensures .1),
+        (λ ne. absurd (ne (c .before .before .before .same .ensures .0 (c .before .before .if1 .taken)))),
+      ),
+    ))
     (λ c κs. search needs)
     (λ c κs. search needs)
-    (λ c. (c .failed .ensures .0, ((λ e. absurd (subst T (sym (sym (c .before .before .if1 .left) ∙ c .before .before .before .same .ensures .1 e)) tt)), (λ ne. c .failed .ensures .1)))))
+    (λ c. (
+      c .failed .ensures .0,
+      (
+        (λ e. absurd (subst T (sym (sym (c .before .before .if1 .left) ∙ c .before .before .before .same .ensures .1 e))
+            tt)),
+        (λ ne. c .failed .ensures .1),
+      ),
+    )))

@@ -38,4 +38,7 @@ same-spec =
     (λ c. search needs)
     (λ c. search needs)
     (λ c. (search needs, below-more _ _ (c .before .before .before .before .loop .inv .1) (c .if2 .left)))
-    (λ c. ((λ e. ext-getD 0 _ _ (c .before .before .if1 .left) (λ k lt. c .before .loop .inv .1 k (omega (arith, lt, c .loop-test .left)))), (λ e. refl))))
+    (λ c. (
+      (λ e. ext-getD 0 _ _ (c .before .before .if1 .left) (λ k lt. c .before .loop .inv .1 k (omega (arith, lt, c .loop-test .left)))),
+      (λ e. refl),
+    )))

@@ -7,8 +7,15 @@ use Rattle.memory.proofs.bytes.read_2.Tie as tie
 
 returns : tie.Need-returns
 returns c =
-    let s = c .before .before .before in
-    (omega (arith, load-halves (s .args .mem .now) (s .args .at) 1 1 (omega (arith, s .pre)), c .before .read-1 .ensures .0, c .read-12 .ensures .0), omega arith)
+    let s = c .before .before .before in (
+      omega (
+        arith,
+        load-halves (s .args .mem .now) (s .args .at) 1 1 (omega (arith, s .pre)),
+        c .before .read-1 .ensures .0,
+        c .read-12 .ensures .0,
+      ),
+      omega arith,
+    )
 
 pub read-2-spec : {M : Type 1} → statement M
 read-2-spec =

@@ -7,8 +7,15 @@ use Rattle.memory.proofs.bytes.read_4.Tie as tie
 
 returns : tie.Need-returns
 returns c =
-    let s = c .before .before .before in
-    (omega (arith, load-halves (s .args .mem .now) (s .args .at) 2 2 (omega (arith, s .pre)), c .before .read-2 .ensures .0, c .read-22 .ensures .0), omega arith)
+    let s = c .before .before .before in (
+      omega (
+        arith,
+        load-halves (s .args .mem .now) (s .args .at) 2 2 (omega (arith, s .pre)),
+        c .before .read-2 .ensures .0,
+        c .read-22 .ensures .0,
+      ),
+      omega arith,
+    )
 
 pub read-4-spec : {M : Type 1} → statement M
 read-4-spec =

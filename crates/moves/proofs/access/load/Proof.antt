@@ -23,7 +23,8 @@ returns-2 c =
     let k = l .before .before .before in
     let d = k .before .before in
     let told = read loadOf (d .before .before .split .ensures) (d .before .imm-i .ensures) (d .load .ensures) (k .access .given .1) in
-    λ ssp rest. does-as (c .load-at .result) _ _ _ rest _ _ rest _ (rw (told, l .access2 .given .1, a .sum .ensures, a .before .reg .ensures) (load-parts _ _ _ _ _ _ _ _ _)) (c .load-at .ensures rest)
+    λ ssp rest. does-as (c .load-at .result) _ _ _ rest _ _ rest _
+    (rw (told, l .access2 .given .1, a .sum .ensures, a .before .reg .ensures) (load-parts _ _ _ _ _ _ _ _ _)) (c .load-at .ensures rest)
 
 pub load-spec : {M : Type 1} → statement M
 load-spec =
@@ -31,16 +32,8 @@ load-spec =
     (tie.spec
     (λ c κs. search needs)
     returns
-    (λ c κs. search needs)
-    (λ c κs. search needs)
-    (λ c κs. search needs)
-    (λ c. search needs)
-    (λ c. search needs)
-    (λ c κs. search needs)
-    (λ c κs. search needs)
-    (λ c κs. search needs)
-    (λ c κs. search needs)
-    (λ c κs. search needs)
+    (λ c κs. search needs) (λ c κs. search needs) (λ c κs. search needs) (λ c. search needs) (λ c. search needs)
+    (λ c κs. search needs) (λ c κs. search needs) (λ c κs. search needs) (λ c κs. search needs) (λ c κs. search needs)
     returns-2
     (λ c. λ ssp rest. undone-does _ _ (c .undone .ensures) _ _ rest _)
     (λ c. λ ssp rest. undone-does _ _ (c .undone2 .ensures) _ _ rest _))

@@ -17,8 +17,10 @@ returns c =
     let p = g .before .before in
     let a = p .before .before .args in
     let f = p .split .ensures in
-    rw (← f) (load-does (c .wrote .result) (r .flat-row .result) (loadOf (p .split .result) (immI (a .w))) (p .split .result) (immI (a .w)) (s .sum .result) (n .sum2 .result) (a .w) (a .pc) (a .x .now) _ (a .mem .now)
-    (r .flat-row .ensures (immI (a .w))) (n .before .before .if1 .taken) (rw (← i .imm-i .ensures, ← g .reg .ensures) (s .sum .ensures)) (n .sum2 .ensures) (c .wrote .ensures))
+    rw (← f) (load-does (c .wrote .result) (r .flat-row .result) (loadOf (p .split .result) (immI (a .w))) (p .split .result) (immI (a .w))
+    (s .sum .result) (n .sum2 .result) (a .w) (a .pc) (a .x .now) _ (a .mem .now)
+    (r .flat-row .ensures (immI (a .w))) (n .before .before .if1 .taken) (rw (← i .imm-i .ensures, ← g .reg .ensures) (s .sum .ensures))
+    (n .sum2 .ensures) (c .wrote .ensures))
 
 returns-2 : tie.Need-returns-2
 returns-2 c = λ ssp s rest map flat. undone-does _ _ (c .undone .ensures) _ _ rest _
@@ -27,13 +29,8 @@ pub load-flat-spec : {M : Type 1} → statement M
 load-flat-spec =
     tie.close
     (tie.spec
-    (λ c κs. search needs)
-    (λ c κs. search needs)
-    (λ c κs. search needs)
-    (λ c κs. search needs)
-    (λ c κs. search needs)
-    (λ c κs. search needs)
-    (λ c κs. search needs)
+    (λ c κs. search needs) (λ c κs. search needs) (λ c κs. search needs) (λ c κs. search needs) (λ c κs. search needs)
+    (λ c κs. search needs) (λ c κs. search needs)
     returns
     (λ c κs. search needs)
     returns-2)

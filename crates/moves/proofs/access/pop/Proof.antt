@@ -11,7 +11,8 @@ returns c =
     let l = c .before .before .before in
     let at = l .before .before .before in
     let found = sym (rw (l .before .index .ensures) at (l .load .ensures)) ∙ c .before .before .if1 .taken in
-    λ x. popped _ _ _ _ _ _ _ _ _ _ (sym (at .before .before .translate .ensures) ∙ at .q .given .1) found (c .sum2 .ensures, rw (c .before .sum .ensures))
+    λ x. popped _ _ _ _ _ _ _ _ _ _ (sym (at .before .before .translate .ensures) ∙ at .q .given .1) found
+    (c .sum2 .ensures, rw (c .before .sum .ensures))
 
 pub pop-spec : {M : Type 1} → statement M
 pop-spec =
@@ -21,7 +22,8 @@ pop-spec =
     (λ c κs. search needs)
     (λ c. search needs)
     (λ c κs. place-within _ _ _ _ _ _ _ (sym (c .before .before .before .translate .ensures) ∙ c .before .q .given .1) .0)
-    (λ c κs. rw (c .index .ensures) (place-index _ _ _ _ _ _ _ (sym (c .before .before .before .before .translate .ensures) ∙ c .before .before .q .given .1)))
+    (λ c κs. rw (c .index .ensures) (place-index _ _ _ _ _ _ _
+    (sym (c .before .before .before .before .translate .ensures) ∙ c .before .before .q .given .1)))
     (λ c κs. search needs)
     (λ c. search needs)
     (λ c κs. search needs)

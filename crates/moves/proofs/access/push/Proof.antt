@@ -14,23 +14,18 @@ returns c =
     let at = s .before .before .before .before in
     let t = at .before .before in
     let top = t .before .before .difference .ensures in
-    λ x. placed _ _ _ _ _ _ _ _ _ _ _ _ _ _ _ (sym (rw top at (t .translate .ensures)) ∙ at .q .given .1) (c .sum .ensures, refl, rw top, rw (s .before .index .ensures) at (s .store .ensures))
+    λ x. placed _ _ _ _ _ _ _ _ _ _ _ _ _ _ _ (sym (rw top at (t .translate .ensures)) ∙ at .q .given .1)
+    (c .sum .ensures, refl, rw top, rw (s .before .index .ensures) at (s .store .ensures))
 
 pub push-spec : {M : Type 1} → statement M
 push-spec =
     tie.close
     (tie.spec
-    (λ c. search needs)
-    (λ c κs. search needs)
-    (λ c κs. search needs)
-    (λ c. search needs)
+    (λ c. search needs) (λ c κs. search needs) (λ c κs. search needs) (λ c. search needs)
     (λ c κs. place-within _ _ _ _ _ _ _ (sym (c .before .before .before .before .translate .ensures) ∙ c .before .before .q .given .1) .0)
-    (λ c κs. rw (c .index .ensures) (place-index _ _ _ _ _ _ _ (sym (c .before .before .before .before .before .translate .ensures) ∙ c .before .before .before .q .given .1)))
-    (λ c. search needs)
-    (λ c κs. search needs)
-    (λ c. search needs)
-    (λ c κs. search needs)
-    (λ c. search needs)
+    (λ c κs. rw (c .index .ensures) (place-index _ _ _ _ _ _ _
+    (sym (c .before .before .before .before .before .translate .ensures) ∙ c .before .before .before .q .given .1)))
+    (λ c. search needs) (λ c κs. search needs) (λ c. search needs) (λ c κs. search needs) (λ c. search needs)
     returns
     (λ c. search needs)
     (λ c. λ x. undone-does _ _ (c .undone .ensures) _ x _ _))

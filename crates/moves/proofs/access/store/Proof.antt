@@ -17,24 +17,21 @@ returns c =
     let k = l .before .before .before in
     let d = k .before .before in
     let told = read storeOf (d .before .before .split .ensures) (d .before .imm-s .ensures) (d .store .ensures) (k .access .given .1) in
-    λ ssp rest. does-as (r .store-at .result) _ _ _ rest _ _ rest _ (rw (told, l .access2 .given .1, a .reg2 .ensures, a .before .sum .ensures, a .before .before .reg .ensures) (store-parts _ _ _ _ _ _ _ _)) (r .store-at .ensures _ rest)
+    λ ssp rest. does-as (r .store-at .result) _ _ _ rest _ _ rest _ (rw (
+      told,
+      l .access2 .given .1,
+      a .reg2 .ensures,
+      a .before .sum .ensures,
+      a .before .before .reg .ensures,
+    ) (store-parts _ _ _ _ _ _ _ _)) (r .store-at .ensures _ rest)
 
 pub store-spec : {M : Type 1} → statement M
 store-spec =
     tie.close
     (tie.spec
-    (λ c κs. search needs)
-    (λ c κs. search needs)
-    (λ c κs. search needs)
-    (λ c. search needs)
-    (λ c. search needs)
-    (λ c κs. search needs)
-    (λ c κs. search needs)
-    (λ c κs. search needs)
-    (λ c κs. search needs)
-    (λ c κs. search needs)
-    (λ c κs. search needs)
-    (λ c. search needs)
+    (λ c κs. search needs) (λ c κs. search needs) (λ c κs. search needs) (λ c. search needs) (λ c. search needs)
+    (λ c κs. search needs) (λ c κs. search needs) (λ c κs. search needs) (λ c κs. search needs) (λ c κs. search needs)
+    (λ c κs. search needs) (λ c. search needs)
     returns
     (λ c. λ ssp rest. undone-does _ _ (c .undone .ensures) _ _ rest _)
     (λ c. λ ssp rest. undone-does _ _ (c .undone2 .ensures) _ _ rest _))

@@ -12,7 +12,8 @@ unfolding doneOf
 returns c =
     let s = c .before .before .before in
     let at = s .before .before .before .before in
-    λ x rest. placed _ _ _ _ _ _ _ _ _ _ _ _ _ _ _ (sym (at .before .before .quick-data .ensures) ∙ at .q .given .1) (c .sum .ensures, refl, refl, rw (s .before .index .ensures) at (s .store .ensures))
+    λ x rest. placed _ _ _ _ _ _ _ _ _ _ _ _ _ _ _ (sym (at .before .before .quick-data .ensures) ∙ at .q .given .1)
+    (c .sum .ensures, refl, refl, rw (s .before .index .ensures) at (s .store .ensures))
 
 pub store-at-spec : {M : Type 1} → statement M
 store-at-spec =
@@ -21,11 +22,9 @@ store-at-spec =
     (λ c κs. search needs)
     (λ c. search needs)
     (λ c κs. place-within _ _ _ _ _ _ _ (sym (c .before .before .before .before .quick-data .ensures) ∙ c .before .before .q .given .1) .0)
-    (λ c κs. rw (c .index .ensures) (place-index _ _ _ _ _ _ _ (sym (c .before .before .before .before .before .quick-data .ensures) ∙ c .before .before .before .q .given .1)))
-    (λ c κs. search needs)
-    (λ c. search needs)
-    (λ c κs. search needs)
-    (λ c. search needs)
+    (λ c κs. rw (c .index .ensures) (place-index _ _ _ _ _ _ _
+    (sym (c .before .before .before .before .before .quick-data .ensures) ∙ c .before .before .before .q .given .1)))
+    (λ c κs. search needs) (λ c. search needs) (λ c κs. search needs) (λ c. search needs)
     returns
     (λ c. search needs)
     (λ c. λ x rest. undone-does _ _ (c .undone .ensures) _ x rest _))

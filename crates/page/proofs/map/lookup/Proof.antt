@@ -28,15 +28,20 @@ returns-2 c =
     let a = c .before .before .before .before .before .before .before .args in
     let e : l .i + 1 + 1 ≡ l .i + 2 = omega arith in
     let f : l .i - 1 + 2 ≡ l .i + 1 = omega (arith, l .inv .0) in
-    sym (l .inv .2 ∙ rw f at (lookup-miss (a .map .now) (l .i - 1) (a .page) (omega (arith, l .inv .0)) (c .before .before .before .if1 .left)) ∙ rw e at (lookup-hit (a .map .now) (l .i + 1) (a .page) (omega (arith, l .inv .0)) (c .before .if2 .taken)))
+    sym (l .inv .2 ∙ rw f at (lookup-miss (a .map .now) (l .i - 1) (a .page) (omega (arith, l .inv .0)) (c .before .before .before .if1 .left))
+    ∙ rw e at (lookup-hit (a .map .now) (l .i + 1) (a .page) (omega (arith, l .inv .0)) (c .before .if2 .taken)))
 
 loop-again : tie.Need-loop-again Inv-loop μ-loop
 loop-again c =
     let l = c .before .before .before .before .before .loop in
     let a = c .before .before .before .before .before .before .args in
     let e : l .i + 1 + 2 ≡ l .i + 4 - 1 = omega arith in
-    let f : l .i - 1 + 2 ≡ l .i + 1 = omega (arith, l .inv .0) in
-    (omega arith, omega (arith, l .inv .0), l .inv .2 ∙ rw f at (lookup-miss (a .map .now) (l .i - 1) (a .page) (omega (arith, l .inv .0)) (c .before .before .if1 .left)) ∙ rw e at (lookup-miss (a .map .now) (l .i + 1) (a .page) (omega (arith, l .inv .0)) (c .if2 .left)))
+    let f : l .i - 1 + 2 ≡ l .i + 1 = omega (arith, l .inv .0) in (
+      omega arith,
+      omega (arith, l .inv .0),
+      l .inv .2 ∙ rw f at (lookup-miss (a .map .now) (l .i - 1) (a .page) (omega (arith, l .inv .0))
+          (c .before .before .if1 .left)) ∙ rw e at (lookup-miss (a .map .now) (l .i + 1) (a .page) (omega (arith, l .inv .0)) (c .if2 .left)),
+    )
 
 returns-3 : tie.Need-returns-3 Inv-loop μ-loop
 returns-3 c =
@@ -48,7 +53,8 @@ returns-4 c =
     let l = c .before .before .before .before .before .loop in
     let a = c .before .before .before .before .before .before .args in
     let e : l .i - 1 + 1 ≡ l .i = omega (arith, l .inv .0) in
-    sym (l .inv .2 ∙ rw e at (lookup-hit (a .map .now) (l .i - 1) (a .page) (omega (arith, l .inv .0, c .before .before .before .if3 .left)) (c .before .if4 .taken)))
+    sym (l .inv .2 ∙ rw e at (lookup-hit (a .map .now) (l .i - 1) (a .page) (omega (arith, l .inv .0, c .before .before .before .if3 .left))
+    (c .before .if4 .taken)))
 
 returns-5 : tie.Need-returns-5 Inv-loop μ-loop
 returns-5 c =

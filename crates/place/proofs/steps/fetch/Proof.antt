@@ -9,11 +9,18 @@ use Rattle.place.proofs.steps.fetch.Tie as tie
 
 returns : tie.Need-returns
 unfolding placeOf reachedOf modeOf transformedOf
-returns c = let p = c .before .before .before in let b = p .before .before in rw (sym (b .aligned .ensures) ∙ p .before .if1 .taken, sym (p .paged .ensures) ∙ c .before .before .if2 .taken, ← c .before .regime .ensures) (c .paged-fetch .ensures)
+returns c =
+    let p = c .before .before .before in
+    let b = p .before .before in
+    rw (sym (b .aligned .ensures) ∙ p .before .if1 .taken, sym (p .paged .ensures) ∙ c .before .before .if2 .taken, ← c .before .regime .ensures)
+    (c .paged-fetch .ensures)
 
 returns-2 : tie.Need-returns-2
 unfolding placeOf reachedOf modeOf transformedOf
-returns-2 c = let p = c .before .before in let b = p .before .before in rw (sym (b .aligned .ensures) ∙ p .before .if1 .taken, sym (p .paged .ensures) ∙ c .before .if2 .left) (c .plain .ensures)
+returns-2 c =
+    let p = c .before .before in
+    let b = p .before .before in
+    rw (sym (b .aligned .ensures) ∙ p .before .if1 .taken, sym (p .paged .ensures) ∙ c .before .if2 .left) (c .plain .ensures)
 
 returns-3 : tie.Need-returns-3
 unfolding placeOf reachedOf modeOf transformedOf
@@ -23,10 +30,7 @@ pub fetch-spec : {M : Type 1} → statement M
 fetch-spec =
     tie.close
     (tie.spec
-    (λ c κs. search needs)
-    (λ c κs. search needs)
-    (λ c κs. search needs)
-    (λ c κs. search needs)
+    (λ c κs. search needs) (λ c κs. search needs) (λ c κs. search needs) (λ c κs. search needs)
     returns
     (λ c κs. search needs)
     returns-2

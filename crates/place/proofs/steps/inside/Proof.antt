@@ -11,7 +11,9 @@ returns c = rw (← c .before .before .bytes .ensures .0, sym (c .before .within
 
 returns-2 : tie.Need-returns-2
 unfolding insideOf
-returns-2 c = rw (← c .before .before .before .bytes .ensures .0, sym (c .before .before .within .ensures) ∙ c .before .if1 .left, c .access-fault .ensures)
+returns-2 c =
+    let b = c .before .before .before in
+    rw (← b .bytes .ensures .0, sym (c .before .before .within .ensures) ∙ c .before .if1 .left, c .access-fault .ensures)
 
 pub inside-spec : {M : Type 1} → statement M
 inside-spec =

@@ -13,7 +13,12 @@ unfolding throughOf
 returns c =
     let f = c .before .before .before in
     let a = f .before .before .args in
-    rw (paged-through (a .g) Fetch Word (a .t .0) (a .len) (a .map .now), sym (f .found .ensures) ∙ c .before .enum-told .given .1, c .page-fault .ensures)
+    rw (
+      paged-through (a .g) Fetch Word (a .t .0) (a .len) (a .map .now),
+      sym (f .found .ensures)
+          ∙ c .before .enum-told .given .1,
+      c .page-fault .ensures,
+    )
 
 returns-2 : tie.Need-returns-2
 unfolding throughOf
@@ -22,18 +27,19 @@ returns-2 c =
     let e = j .before .before in
     let f = e .before .before in
     let a = f .before .before .args in
-    rw (paged-through (a .g) Fetch Word (a .t .0) (a .len) (a .map .now), sym (f .found .ensures) ∙ e .e .given .1, ← j .judge-fetch .ensures, ← c .before .physical .ensures) (c .settle .ensures)
+    rw (
+      paged-through (a .g) Fetch Word (a .t .0) (a .len) (a .map .now),
+      sym (f .found .ensures)
+          ∙ e .e .given .1,
+      ← j .judge-fetch .ensures,
+      ← c .before .physical .ensures,
+    ) (c .settle .ensures)
 
 pub paged-fetch-spec : {M : Type 1} → statement M
 paged-fetch-spec =
     tie.close
     (tie.spec
-    (λ c κs. search needs)
-    (λ c. search needs)
-    (λ c κs. search needs)
-    (λ c. search needs)
-    (λ c κs. search needs)
-    (λ c κs. search needs)
-    (λ c κs. search needs)
+    (λ c κs. search needs) (λ c. search needs) (λ c κs. search needs) (λ c. search needs) (λ c κs. search needs)
+    (λ c κs. search needs) (λ c κs. search needs)
     returns
     returns-2)

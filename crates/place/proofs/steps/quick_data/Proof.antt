@@ -14,7 +14,8 @@ returns c =
     let s = c .before .before .before .before in
     let a = s .args in
     let known : a .flat ≡ true = c .before .if1 .taken in
-    c .plainly .ensures ∙ sym (data-flat (a .c) (a .k) (a .w) (a .a .0) (a .map .now) (length (a .mem .now)) (sym (s .pre .1) ∙ known) (s .pre .2) (s .pre .3) (omega arith))
+    c .plainly .ensures ∙ sym (data-flat (a .c) (a .k) (a .w) (a .a .0) (a .map .now) (length (a .mem .now)) (sym (s .pre .1) ∙ known) (s .pre .2)
+    (s .pre .3) (omega arith))
 
 pub quick-data-spec : {M : Type 1} → statement M
 quick-data-spec = tie.close (tie.spec (λ c κs. search needs) returns (λ c κs. search needs) (λ c. c .translate .ensures))

@@ -28,10 +28,13 @@ returns c =
     let q = c .before .before .before .q .given in
     let there : placeOf (a .c) Fetch Word (a .a - a .a % 4096) (a .map .now) (length (a .mem .now)) ≡ At (q .0 .0) = sym (f .fetch .ensures) ∙ q .1 in
     let within = place-within (a .c) Fetch Word (a .a - a .a % 4096) (a .map .now) (length (a .mem .now)) (q .0 .0) there in
-    page-shows (a .c) (a .a - a .a % 4096) (a .map .now) (length (a .mem .now)) (q .0 .0) (s .pre .1) (omega arith) there (s .pre .0) (within .0) (c .if1 .taken) (omega arith)
+    page-shows (a .c) (a .a - a .a % 4096) (a .map .now) (length (a .mem .now)) (q .0 .0) (s .pre .1) (omega arith) there (s .pre .0) (within .0)
+    (c .if1 .taken) (omega arith)
 
 returns-2 : tie.Need-returns-2
-returns-2 c = let a = c .before .before .before .before .before .before .before .before .before .args in c .closed .ensures (a .c) (a .map .now) (length (a .mem .now))
+returns-2 c =
+    let a = c .before .before .before .before .before .before .before .before .before .args in
+    c .closed .ensures (a .c) (a .map .now) (length (a .mem .now))
 
 returns-3 : tie.Need-returns-3
 returns-3 c = let a = c .before .before .before .before .before .before .args in c .closed2 .ensures (a .c) (a .map .now) (length (a .mem .now))

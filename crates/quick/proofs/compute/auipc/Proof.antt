@@ -7,7 +7,14 @@ use Rattle.quick.proofs.compute.auipc.Tie as tie
 
 returns : tie.Need-returns
 unfolding executeOf
-returns c = λ pad ssp s rest m map e. wrote-does _ _ _ _ _ _ (c .wrote .ensures) _ (rw (c .before .sum2 .ensures, c .before .before .sum .ensures, c .before .before .before .imm-u .ensures, c .before .before .before .before .split .ensures)) rest m
+returns c =
+    λ pad ssp s rest m map e. wrote-does _ _ _ _ _ _ (c .wrote .ensures) _
+    (rw (
+      c .before .sum2 .ensures,
+      c .before .before .sum .ensures,
+      c .before .before .before .imm-u .ensures,
+      c .before .before .before .before .split .ensures,
+    )) rest m
 
 pub auipc-spec : {M : Type 1} → statement M
 auipc-spec =

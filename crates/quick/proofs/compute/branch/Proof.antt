@@ -17,7 +17,8 @@ returns c =
     let told = read branchOf (d .before .before .split .ensures) (d .before .imm-b .ensures) (d .branch .ensures) (k .k .given .1) in
     let n = t .before in
     let holds = sym (rw (n .before .before .before .reg .ensures, n .before .reg2 .ensures) at (n .condition .ensures)) ∙ (t .if1 .taken) in
-    λ pad ssp s rest m map e. does-as (c .jumped .result) _ _ _ rest m _ rest m (rw (told, holds, c .before .sum .ensures)) (c .jumped .ensures rest m)
+    λ pad ssp s rest m map e. does-as (c .jumped .result) _ _ _ rest m _ rest m (rw (told, holds, c .before .sum .ensures))
+    (c .jumped .ensures rest m)
 
 returns-2 : tie.Need-returns-2
 unfolding executeOf takenOf
@@ -34,15 +35,8 @@ pub branch-spec : {M : Type 1} → statement M
 branch-spec =
     tie.close
     (tie.spec
-    (λ c κs. search needs)
-    (λ c κs. search needs)
-    (λ c κs. search needs)
-    (λ c. search needs)
-    (λ c κs. search needs)
-    (λ c κs. search needs)
-    (λ c κs. search needs)
-    (λ c κs. search needs)
-    (λ c κs. search needs)
+    (λ c κs. search needs) (λ c κs. search needs) (λ c κs. search needs) (λ c. search needs) (λ c κs. search needs)
+    (λ c κs. search needs) (λ c κs. search needs) (λ c κs. search needs) (λ c κs. search needs)
     returns
     (λ c κs. search needs)
     (λ c κs. search needs)

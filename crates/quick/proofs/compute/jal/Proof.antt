@@ -7,7 +7,13 @@ use Rattle.quick.proofs.compute.jal.Tie as tie
 
 returns : tie.Need-returns
 unfolding executeOf
-returns c = λ pad ssp s rest m map e. does-as (c .jumped .result) _ _ _ rest m _ rest m (rw (c .before .sum2 .ensures, c .before .before .imm-j .ensures, c .before .before .before .sum .ensures, c .before .before .before .before .split .ensures)) (c .jumped .ensures rest m)
+returns c =
+    λ pad ssp s rest m map e. does-as (c .jumped .result) _ _ _ rest m _ rest m (rw (
+      c .before .sum2 .ensures,
+      c .before .before .imm-j .ensures,
+      c .before .before .before .sum .ensures,
+      c .before .before .before .before .split .ensures,
+    )) (c .jumped .ensures rest m)
 
 pub jal-spec : {M : Type 1} → statement M
 jal-spec =

@@ -16,25 +16,25 @@ returns-2 c =
     let k = t .before .before .before .before in
     let d = k .before .before in
     let told = read jalrOf (d .before .before .split .ensures) (d .before .imm-i .ensures) (d .jalr .ensures) (k .rd .given .1) in
-    λ ssp s rest m map e. padless (c .jumped .result) _ _ _ _ _ _ rest m _ (t .if1 .left) (rw (told, e, j .even .ensures, j .before .sum .ensures, j .before .before .reg .ensures, c .before .sum2 .ensures, t .before .expected .ensures, t .before .before .needs-no-pad .ensures)) (c .jumped .ensures rest m)
+    λ ssp s rest m map e. padless (c .jumped .result) _ _ _ _ _ _ rest m _ (t .if1 .left) (rw (
+      told,
+      e,
+      j .even .ensures,
+      j .before .sum .ensures,
+      j .before .before .reg .ensures,
+      c .before .sum2 .ensures,
+      t .before .expected .ensures,
+      t .before .before .needs-no-pad .ensures,
+    )) (c .jumped .ensures rest m)
 
 pub jalr-spec : {M : Type 1} → statement M
 jalr-spec =
     tie.close
     (tie.spec
-    (λ c κs. search needs)
-    (λ c κs. search needs)
-    (λ c κs. search needs)
-    (λ c. search needs)
-    (λ c κs. search needs)
-    (λ c κs. search needs)
-    (λ c κs. search needs)
+    (λ c κs. search needs) (λ c κs. search needs) (λ c κs. search needs) (λ c. search needs) (λ c κs. search needs)
+    (λ c κs. search needs) (λ c κs. search needs)
     (λ c. λ ssp s rest m map e. undone-does _ _ (c .undone .ensures) _ _ rest m)
-    (λ c κs. search needs)
-    (λ c κs. search needs)
-    (λ c κs. search needs)
-    (λ c κs. search needs)
-    (λ c κs. search needs)
+    (λ c κs. search needs) (λ c κs. search needs) (λ c κs. search needs) (λ c κs. search needs) (λ c κs. search needs)
     (λ c κs. search needs)
     returns-2
     (λ c. λ ssp s rest m map e. undone-does _ _ (c .undone2 .ensures) _ _ rest m))

@@ -12,4 +12,5 @@ unfolding jalOf
 returns c = λ rest m. wrote-does _ _ _ _ _ _ (c .wrote .ensures) _ (first _ _ _ (eq-eqb _ _ (c .before .before .if1 .taken))) rest m
 
 pub jumped-spec : {M : Type 1} → statement M
-jumped-spec = tie.close (tie.spec (λ c κs. search needs) returns (λ c κs. search needs) (λ c. λ rest m. undone-does _ _ (c .undone .ensures) _ _ rest m))
+jumped-spec =
+    tie.close (tie.spec (λ c κs. search needs) returns (λ c κs. search needs) (λ c. λ rest m. undone-does _ _ (c .undone .ensures) _ _ rest m))

@@ -7,7 +7,10 @@ use Rattle.quick.proofs.compute.lui.Tie as tie
 
 returns : tie.Need-returns
 unfolding executeOf
-returns c = λ pad ssp s rest m map e. wrote-does _ _ _ _ _ _ (c .wrote .ensures) _ (rw (c .before .sum .ensures, c .before .before .imm-u .ensures, c .before .before .before .split .ensures)) rest m
+returns c =
+    let d = c .before .before in
+    let b = d .before in
+    λ pad ssp s rest m map e. wrote-does _ _ _ _ _ _ (c .wrote .ensures) _ (rw (c .before .sum .ensures, d .imm-u .ensures, b .split .ensures)) rest m
 
 pub lui-spec : {M : Type 1} → statement M
 lui-spec = tie.close (tie.spec (λ c κs. search needs) (λ c κs. search needs) (λ c κs. search needs) (λ c κs. search needs) returns)

@@ -1,4 +1,5 @@
--- `quick::compute::op_imm_32` meets its contract: the register takes the value that its table tells, or there is no such instruction. Assumes nothing.
+-- `quick::compute::op_imm_32` meets its contract: the register takes the value that its table tells, or there is no such instruction. Assumes
+-- nothing.
 use mathlib.Core.Path.{refl}
 use Rattle.quick.proofs.Values.{value-does}
 use Rattle.moves.proofs.Ways.{undone-does}
@@ -24,11 +25,7 @@ pub op-imm-32-spec : {M : Type 1} → statement M
 op-imm-32-spec =
     tie.close
     (tie.spec
-    (λ c κs. search needs)
-    (λ c κs. search needs)
-    (λ c κs. search needs)
-    (λ c κs. search needs)
-    (λ c κs. search needs)
+    (λ c κs. search needs) (λ c κs. search needs) (λ c κs. search needs) (λ c κs. search needs) (λ c κs. search needs)
     (λ c κs. search needs)
     returns
     (λ c κs. search needs)

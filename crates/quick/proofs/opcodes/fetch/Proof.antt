@@ -11,7 +11,8 @@ returns c =
     let u = t .before .before in
     let d = u .before in
     let a = d .before .before .args in
-    λ k map shows seen. seen-word (a .v) (a .pc) _ _ (d .difference .ensures) (t .if2 .taken) (u .if1 .taken) (omega arith) k map (a .mem .now) shows (c .word .ensures)
+    λ k map shows seen. seen-word (a .v) (a .pc) _ _ (d .difference .ensures) (t .if2 .taken) (u .if1 .taken) (omega arith) k map
+    (a .mem .now) shows (c .word .ensures)
 
 pub fetch-spec : {M : Type 1} → statement M
 fetch-spec =

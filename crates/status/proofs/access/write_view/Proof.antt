@@ -13,4 +13,5 @@ write-view-spec =
     (λ c κs. search needs)
     (λ c κs. search needs)
     (λ c κs. rw (c .through .ensures) (c .before .before .split .ensures .1))
-    (λ c. rw (c .word .ensures, c .before .through .ensures, c .before .before .split2 .ensures .0, c .before .before .before .split .ensures .0) (sym (views _ _))))
+    (λ c. rw (c .word .ensures, c .before .through .ensures, c .before .before .split2 .ensures .0, c .before .before .before .split .ensures .0)
+    (sym (views _ _))))

@@ -8,7 +8,22 @@ use Rattle.transfer.proofs.access.access.Tie as tie
 
 returns : tie.Need-returns
 unfolding accessOf passedOf
-returns c = let t = c .before in let w = t .before in let k = w .before in let a = k .before in let s = a .before in let m = s .before .before in rw (c .at .ensures, t .translate .ensures, w .width .ensures, k .kind .ensures, a .address .ensures, s .sum .ensures, sym (m .before .before .gate-of .ensures) ∙ m .enum-told .given .1)
+returns c =
+    let t = c .before in
+    let w = t .before in
+    let k = w .before in
+    let a = k .before in
+    let s = a .before in
+    let m = s .before .before in
+    rw (
+      c .at .ensures,
+      t .translate .ensures,
+      w .width .ensures,
+      k .kind .ensures,
+      a .address .ensures,
+      s .sum .ensures,
+      sym (m .before .before .gate-of .ensures) ∙ m .enum-told .given .1,
+    )
 
 returns-2 : tie.Need-returns-2
 unfolding accessOf passedOf
@@ -22,13 +37,8 @@ pub access-spec : {M : Type 1} → statement M
 access-spec =
     tie.close
     (tie.spec
-    (λ c κs. search needs)
-    (λ c. search needs)
-    (λ c κs. search needs)
-    (λ c κs. search needs)
-    (λ c κs. search needs)
-    (λ c κs. search needs)
-    (λ c κs. search needs)
+    (λ c κs. search needs) (λ c. search needs) (λ c κs. search needs) (λ c κs. search needs) (λ c κs. search needs)
+    (λ c κs. search needs) (λ c κs. search needs)
     (λ c κs. λ q e. rw (← c .before .width .ensures) (place-within _ _ _ _ _ _ q (sym (c .translate .ensures) ∙ e)))
     (λ c. search needs)
     (λ c. search needs)

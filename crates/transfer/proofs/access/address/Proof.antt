@@ -7,14 +7,8 @@ pub address-spec : {M : Type 1} → statement M
 address-spec =
     tie.close
     (tie.spec
-    (λ c. search needs)
-    (λ c. search needs)
-    (λ c. search needs)
-    (λ c κs. search needs)
-    (λ c. search needs)
-    (λ c. search needs)
-    (λ c. search needs)
-    (λ c. search needs)
+    (λ c. search needs) (λ c. search needs) (λ c. search needs) (λ c κs. search needs) (λ c. search needs)
+    (λ c. search needs) (λ c. search needs) (λ c. search needs)
     (λ c. rw (c .push .ensures, c .before .enum-told3 .given .1))
     (λ c. search needs)
     (λ c. search needs))

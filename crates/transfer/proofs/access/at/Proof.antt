@@ -13,4 +13,6 @@ unfolding atOf
 returns-2 c = rw (c .before .p2 .given .1)
 
 pub at-spec : {M : Type 1} → statement M
-at-spec = tie.close (tie.spec (λ c. search needs) (λ c κs. c .before .before .before .before .pre _ (c .before .p .given .1)) (λ c. search needs) returns returns-2)
+at-spec =
+    tie.close (tie.spec (λ c. search needs) (λ c κs. c .before .before .before .before .pre _ (c .before .p .given .1))
+    (λ c. search needs) returns returns-2)

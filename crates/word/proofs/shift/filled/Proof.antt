@@ -37,4 +37,5 @@ returns-2 c k e p l =
 
 pub filled-spec : {M : Type 1} → statement M
 filled-spec =
-    tie.close (tie.spec (λ c. search needs) (λ c. search needs) (λ c. shr-le (c .before .args .ones) (c .before .args .n)) add-result returns returns-2)
+    tie.close (tie.spec (λ c. search needs) (λ c. search needs)
+    (λ c. shr-le (c .before .args .ones) (c .before .args .n)) add-result returns returns-2)
