@@ -16,9 +16,6 @@ use lines::report;
 use lines::report::Counts;
 use lines::row;
 
-// Steps and runs: the public calls.
-mod calls;
-
 // Runs a case: puts what came of it into a row of zeros, and answers how many numbers these are. The wanted numbers stand in their
 // row already; a call adds to them.
 fn came(

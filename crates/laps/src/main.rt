@@ -2,15 +2,11 @@
 // ended with the numbers that its file works out.
 use hart::Hart;
 use lines::line::MOST;
+use loops::calls;
+use loops::chain;
+use loops::doubles;
+use loops::registers;
 
-// Calls with landing pads, pushes and pop-checks, in U under Sv39.
-mod calls;
-// Chained runs, and the numbers of what came of them.
-mod chain;
-// Loads and stores.
-mod doubles;
-// Registers only.
-mod registers;
 // What is printed.
 mod told;
 

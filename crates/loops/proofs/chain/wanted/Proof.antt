@@ -1,9 +1,9 @@
--- `laps::chain::wanted` meets its contract: the loop stays within the pairs. Assumes nothing.
+-- `chain::wanted` meets its contract: the loop stays within the pairs. Assumes nothing.
 use borrow.Author.Needs.{needs}
 use Prim.Native.Nat.{_≤_, _+_, _-_}
 use lib.ListN.{length}
-use Rattle.laps.proofs.chain.wanted.Statement.{statement}
-use Rattle.laps.proofs.chain.wanted.Tie as tie
+use Rattle.loops.proofs.chain.wanted.Statement.{statement}
+use Rattle.loops.proofs.chain.wanted.Tie as tie
 
 abbrev Inv-loop : tie.InvT-loop
 Inv-loop row₀ pairs i₀ row i = i ≤ 1 + length pairs

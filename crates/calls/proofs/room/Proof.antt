@@ -1,9 +1,9 @@
--- `cases::calls::room` meets its contract: the length by its law, for it is too long to be counted. Assumes nothing.
+-- `room` meets its contract: the length by its law, for it is too long to be counted. Assumes nothing.
 use mathlib.Core.Path.{_≡_, sym}
 use Prim.Native.Nat.{ℕ}
 use lib.ListN.{length, length-replicate, replicate}
-use Rattle.cases.proofs.calls.room.Statement.{statement}
-use Rattle.cases.proofs.calls.room.Tie as tie
+use Rattle.calls.proofs.room.Statement.{statement}
+use Rattle.calls.proofs.room.Tie as tie
 
 long : (n : ℕ) → n ≡ length {A = ℕ} (replicate n 0)
 long n = sym (length-replicate n 0)

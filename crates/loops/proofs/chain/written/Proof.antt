@@ -1,10 +1,10 @@
--- `laps::chain::written` meets its contract: a store keeps the length of memory. Assumes nothing.
+-- `chain::written` meets its contract: a store keeps the length of memory. Assumes nothing.
 use borrow.Author.Needs.{needs}
 use Prim.Native.Nat.{_≤_, _-_}
 use mathlib.Core.Path.{_≡_}
 use lib.ListN.{length}
-use Rattle.laps.proofs.chain.written.Statement.{statement}
-use Rattle.laps.proofs.chain.written.Tie as tie
+use Rattle.loops.proofs.chain.written.Statement.{statement}
+use Rattle.loops.proofs.chain.written.Tie as tie
 
 abbrev Inv-loop : tie.InvT-loop
 Inv-loop mem₀ code i₀ mem i = (i ≤ length code) × (length mem ≡ length mem₀)

@@ -1,8 +1,8 @@
--- `laps::chain::doubles` is safe and ends. Assumes nothing.
+-- `chain::doubles` is safe and ends. Assumes nothing.
 use borrow.Author.Needs.{needs}
 use Prim.Native.Nat.{_≤_, _-_}
-use Rattle.laps.proofs.chain.doubles.Statement.{statement}
-use Rattle.laps.proofs.chain.doubles.Tie as tie
+use Rattle.loops.proofs.chain.doubles.Statement.{statement}
+use Rattle.loops.proofs.chain.doubles.Tie as tie
 
 abbrev Inv-loop : tie.InvT-loop
 Inv-loop got₀ mem at i₀ got i = i ≤ 4

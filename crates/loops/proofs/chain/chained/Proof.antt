@@ -1,10 +1,10 @@
--- `laps::chain::chained` meets its contract: each turn is a run. Assumes nothing.
+-- `chain::chained` meets its contract: each turn is a run. Assumes nothing.
 use borrow.Author.Needs.{needs}
 use Prim.Native.Nat.{_≤_, _-_}
 use mathlib.Core.Path.{_≡_}
 use lib.ListN.{length}
-use Rattle.laps.proofs.chain.chained.Statement.{statement}
-use Rattle.laps.proofs.chain.chained.Tie as tie
+use Rattle.loops.proofs.chain.chained.Statement.{statement}
+use Rattle.loops.proofs.chain.chained.Tie as tie
 
 abbrev Inv-loop : tie.InvT-loop
 Inv-loop mem₀ map hart₀ steps₀ runs₀ mem hart steps runs = (runs ≤ 8) × (length mem ≡ length mem₀)
