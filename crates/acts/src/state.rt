@@ -2,6 +2,7 @@
 // numbers they follow the operation and its two arguments.
 ghost use mathlib.Core.Path.{_≡_};
 ghost use Prim.Native.Nat.{_≤_, _+_};
+ghost use lib.ListN.{getD};
 ghost use Rattle.words.specs.Words.{_of_, PC};
 use hart::Hart;
 use lines::line::MOST;
@@ -11,7 +12,7 @@ use words::PC;
 
 // The hart that is given.
 pub fn given(n: &[u64]) -> Hart
-    ensures { λ r. ⌜ PC of r .words ≡ 3 of now (n .entry) ⌝ }
+    ensures { λ r. ⌜ PC of r .words ≡ getD (now (n .entry)) 3 0 ⌝ }
 {
     let mut x = [0u64; 32];
     row::take(&mut x, n, 4);

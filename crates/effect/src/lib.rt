@@ -1,5 +1,5 @@
-// What an instruction changes: a small value, the effect, which the hart applies; and what each family of instructions but loads, stores
-// and the shadow stack's (crate `transfer`) does, from its operands' values. Nothing here knows a hart, and nothing here changes anything but
+// What an instruction changes: a small value, the effect, which the hart applies; and what each family of instructions but loads, stores and the
+// shadow stack's (crate `transfer`) does, from its operands' values. Nothing here knows a hart, and nothing here changes anything but
 // `register::put`, which writes a lent array.
 use csr::Csr;
 use isa::CsrOperation;

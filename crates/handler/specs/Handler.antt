@@ -2,8 +2,8 @@
 -- everything as it was. It never makes a trap, and never changes a CSR that a setting depends on: whoever keeps a hart's setting at hand need not
 -- make it again.
 --
--- Below, x are the registers, rest the hart's other words; a name with ' is what it is afterwards. next is the
--- instruction after this one: none of these goes elsewhere.
+-- Below, x are the registers, rest the hart's other words; a name with ' is what it is afterwards. next is the instruction after this one: none of
+-- these goes elsewhere.
 use mathlib.Core.Bool.{Bool, true, false}
 use mathlib.Core.List.{List}
 use mathlib.Core.Path.{_≡_}

@@ -1,6 +1,5 @@
 -- The eight registers of a trap handler: scratch, epc, cause and tval, of M and of S. Four addresses of a mode follow each other, and so do their
--- words among a hart's;
--- so numbers say all, and an address is only named here.
+-- words among a hart's; so numbers say all, and an address is only named here.
 use mathlib.Core.Bool.{Bool, false}
 use mathlib.Core.List.{List}
 use mathlib.Core.Path.{_≡_}

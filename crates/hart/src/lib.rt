@@ -1,6 +1,5 @@
 // The hart: a value that each operation takes and hands back. Beside the registers it is a row of named words (crate `words`), and each operation on
-// it is
-// one on these. Any value may be handed in: `legal` says which ones refusal 1 lets pass.
+// it is one on these. Any value may be handed in: `legal` says which ones refusal 1 lets pass.
 use words::COUNT;
 
 pub mod apply;

@@ -2,6 +2,7 @@
 ghost use mathlib.Core.Path.{_≡_};
 ghost use Prim.Native.Nat.{_≤_};
 ghost use lib.ListN.{length};
+use call::Answer;
 use hart::Hart;
 use isa::Width;
 use lines::line::MOST;
@@ -46,7 +47,7 @@ pub fn chained(h: Hart, mem: &mut [u8], map: &[u64]) -> Ran
     let mut steps = 0;
     let mut runs = 0;
     while runs < MOST_RUNS {
-        let a = machine::run(hart, &mut *mem, map, BUDGET);
+        let a: Answer = machine::run(hart, &mut *mem, map, BUDGET);
         let g = a.hart;
         hart = g;
         steps = num::wrapping_add_u64(steps, a.count);

@@ -4,10 +4,8 @@
 use regime::Setting;
 
 // What is known beforehand about a stretch of steps: what the mode and CSRs say, and whether loads and stores are neither masked nor translated. The
-// run's
-// way passes it on by value, so that what else is remembered is a field more; no definition of a step speaks of it. The window of fetches stands
-// apart:
-// as a field it cost 12 machine instructions a step (docs/SPEED.md).
+// run's way passes it on by value, so that what else is remembered is a field more; no definition of a step speaks of it. The window of fetches
+// stands apart: as a field it cost 12 machine instructions a step (docs/SPEED.md).
 pub struct Context {
     pub setting: Setting,
     pub flat: bool,

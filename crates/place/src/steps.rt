@@ -109,7 +109,7 @@ fn paged(g: Regime, k: Kind, w: Width, t: Virtual, map: &[u64], len: u64) -> Pla
     through(found(t, map), g, k, w, len, t)
 }
 
-// The same for a fetch, which `fetch` alone calls: so it is compiled into the run's loop too.
+// The same for a fetch, which `fetch` alone calls: so `paged` has one caller too, and both are compiled in place.
 fn paged_fetch(g: Regime, t: Virtual, map: &[u64], len: u64) -> Place
     requires { ⌜ len ≤ 2 ^ 20 ⌝ }
     ensures { λ r. ⌜ r ≡ pagedPlaceOf g Fetch Word (t .0) (now (map .entry)) len ⌝ }
@@ -138,8 +138,8 @@ fn plain(k: Kind, w: Width, t: Virtual, len: u64) -> Place
     inside(k, w, len, Physical(t.0), t)
 }
 
-// The nine steps for a fetch, which is not masked and always has the current mode. Every step of a run makes one: on its own, it
-// is compiled into the run's loop, and so is what is left of `translate`.
+// The nine steps for a fetch, which is not masked and always has the current mode: a step the whole way makes one, and so does a window. Measured
+// (docs/DECISIONS.md): without it a step of the CSR and trap row takes 10 machine instructions more.
 pub fn fetch(c: Control, a: Virtual, map: &[u64], mem: &[u8]) -> Place
     requires { ⌜ length (now mem) ≤ 2 ^ 20 ⌝ }
     ensures { λ r. ⌜ r ≡ placeOf c Fetch Word (a .0) (now (map .entry)) (length (now (mem .entry))) ⌝ }

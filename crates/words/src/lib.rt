@@ -1,6 +1,5 @@
 // The hart's words beside the registers: one array, whose words have names, and what needs no more of the hart than them: what a CSR shows and takes,
-// what
-// the mode and CSRs say about an instruction, trap entry, the returns, and refusal 1. The order is that of include/sporhulma.h.
+// what the mode and CSRs say about an instruction, trap entry, the returns, and refusal 1. The order is that of include/sporhulma.h.
 use csr::Csr;
 ghost use mathlib.Core.Path.{_≡_};
 ghost use Prim.Native.Nat.{_<_};
