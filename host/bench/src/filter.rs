@@ -176,6 +176,15 @@ pub fn in_user() -> Program {
     program
 }
 
+/// The same in runs of 40 steps, as a host makes them that looks at the hart in between: what a call costs beside its steps shows here.
+pub fn in_short_runs() -> Program {
+    Program {
+        name: "filter, Sv39, 2 entries, runs of 40",
+        most: 40,
+        ..in_user()
+    }
+}
+
 #[cfg(test)]
 mod tests {
     use super::*;

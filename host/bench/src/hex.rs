@@ -41,7 +41,7 @@ impl Text {
     /// Loads until so many bytes of text were read, and gives millions of them a second. `load` gives refusal and start address.
     fn timed(&self, bytes: u64, load: fn(&mut [u8], &[u8]) -> (u64, Option<u64>)) -> f64 {
         let mut memory = vec![0; self.image.len()];
-        let millions = speed(bytes, |_| {
+        let millions = speed(bytes, bytes, |_| {
             let loaded = load(&mut memory, &self.text);
             assert_eq!(loaded, (0, Some(START)), "{}", self.name);
             self.bytes()

@@ -2,32 +2,33 @@
 //! run, and below them megabytes of Intel HEX a second. Each figure is the best of several turns, which the two take one after the other,
 //! so that a busy machine harms both alike.
 
+mod controller;
 mod count;
 mod encode;
 mod filter;
 mod hex;
 mod programs;
+mod straight;
 
 use programs::Program;
-use sporhulma::MOST_STEPS;
 use std::process::ExitCode;
 use std::time::Instant;
 
 const USAGE: &str = "usage: tools/bench [MILLIONS] [TURNS]: instructions, or bytes of text, a turn in millions (1 to 1000, default 20), turns (1 to 100, default 5); or tools/bench count";
 
-/// Calls `run` until it has taken `steps` instructions in all, and gives millions a second.
-fn speed(steps: u64, mut run: impl FnMut(u64) -> u64) -> f64 {
+/// Calls `run` until it has taken `steps` instructions in all, at most so many a call, and gives millions a second.
+fn speed(steps: u64, most: u64, mut run: impl FnMut(u64) -> u64) -> f64 {
     let start = Instant::now();
     let mut taken = 0;
     while taken < steps {
-        taken += run(MOST_STEPS.min(steps - taken));
+        taken += run(most.min(steps - taken));
     }
     taken as f64 / start.elapsed().as_secs_f64() / 1e6
 }
 
 fn proved(p: &Program, steps: u64) -> f64 {
     let (mut hart, mut memory) = (p.hart, p.memory.clone());
-    speed(steps, |budget| {
+    speed(steps, p.most, |budget| {
         let a = sporhulma::run(&mut hart, &mut memory, &p.map, budget);
         assert_eq!(a.refusal, 0, "{}: refused", p.name);
         a.count
@@ -37,7 +38,7 @@ fn proved(p: &Program, steps: u64) -> f64 {
 fn second(p: &Program, steps: u64) -> f64 {
     let mut hart = second::Hart::from_words(&p.hart.x, &p.hart.rest);
     let mut memory = p.memory.clone();
-    speed(steps, |budget| {
+    speed(steps, p.most, |budget| {
         let a = second::run(&mut hart, &mut memory, &p.map, budget);
         assert_eq!(a.refusal, 0, "{}: refused", p.name);
         a.count
@@ -115,19 +116,25 @@ mod tests {
     /// Both simulators do the same with each program, and only one of them traps: else the table would time something else.
     #[test]
     fn the_programs_do_what_they_are_for() {
+        // More than the longest of them takes to come round once.
+        const STEPS: u64 = 20_000;
         for p in programs::all() {
             let (mut ours, mut memory) = (p.hart, p.memory.clone());
-            let answer = sporhulma::run(&mut ours, &mut memory, &p.map, 10_000);
             let mut theirs = second::Hart::from_words(&p.hart.x, &p.hart.rest);
             let mut other = p.memory.clone();
-            let told = second::run(&mut theirs, &mut other, &p.map, 10_000);
-            assert_eq!(
-                (answer.refusal, answer.trapped),
-                (0, p.name == "CSR and trap loop"),
-                "{}",
-                p.name
-            );
-            assert_eq!((answer.count, answer.trapped), (told.count, told.trapped));
+            let (mut taken, budget) = (0, p.most.min(STEPS));
+            while taken < STEPS {
+                let answer = sporhulma::run(&mut ours, &mut memory, &p.map, budget);
+                let told = second::run(&mut theirs, &mut other, &p.map, budget);
+                assert_eq!(
+                    (answer.refusal, answer.trapped),
+                    (0, p.name == "CSR and trap loop"),
+                    "{}",
+                    p.name
+                );
+                assert_eq!((answer.count, answer.trapped), (told.count, told.trapped));
+                taken += answer.count;
+            }
             assert_eq!((ours.x, ours.rest), theirs.to_words());
             assert_eq!(memory, other);
         }

@@ -2,8 +2,8 @@
 //! instructions it takes.
 
 use crate::encode::*;
-use crate::filter;
-use sporhulma::{word, Hart, BASE};
+use crate::{controller, filter, straight};
+use sporhulma::{word, Hart, BASE, MOST_STEPS};
 
 /// Leaf bits: valid, accessed and dirty; and what a page may do.
 const VAD: u64 = 0xC1;
@@ -19,13 +19,16 @@ pub struct Program {
     pub hart: Hart,
     pub memory: Vec<u8>,
     pub map: Vec<u64>,
+    /// Steps that one call takes at most; the next call goes on.
+    pub most: u64,
 }
 
-/// In M at memory's first byte, with the code there and one page of data behind it (its address in x2).
+/// In M at memory's first byte, with the code there and one page of data behind its last page (its address in x2).
 pub fn bare(name: &'static str, code: &[u32]) -> Program {
+    let data = (4 * code.len()).next_multiple_of(PAGE);
     let mut hart = Hart::fresh();
-    hart.x[2] = BASE + PAGE as u64;
-    let mut memory = vec![0; 2 * PAGE];
+    hart.x[2] = BASE + data as u64;
+    let mut memory = vec![0; data + PAGE];
     place(&mut memory, 0, code);
     let map = Vec::new();
     Program {
@@ -33,10 +36,11 @@ pub fn bare(name: &'static str, code: &[u32]) -> Program {
         hart,
         memory,
         map,
+        most: MOST_STEPS,
     }
 }
 
-fn place(memory: &mut [u8], at: usize, code: &[u32]) {
+pub fn place(memory: &mut [u8], at: usize, code: &[u32]) {
     for (k, word) in code.iter().enumerate() {
         memory[at + 4 * k..at + 4 * k + 4].copy_from_slice(&word.to_le_bytes());
     }
@@ -159,6 +163,7 @@ pub fn calls(name: &'static str, entries: usize) -> Program {
         hart,
         memory,
         map,
+        most: MOST_STEPS,
     }
 }
 
@@ -199,5 +204,9 @@ pub fn all() -> Vec<Program> {
         filter::in_machine(),
         filter::in_user(),
         checksum(),
+        controller::in_machine(),
+        controller::in_user(),
+        straight::program(),
+        filter::in_short_runs(),
     ]
 }
