@@ -10,7 +10,7 @@
 //! program.rs.
 
 use crate::gnu;
-use crate::program::{generate, Program, BASE};
+use crate::program::{generate, patched, Program, BASE};
 use crate::qemu::{self, Entry, Qemu, LOGGED};
 use crate::report::Report;
 use crate::side::{proved, second, Side};
@@ -42,6 +42,23 @@ pub fn compare(seed: u64, programs: Range<u64>) -> Result<u64, String> {
     )))
 }
 
+/// The fixed programs that patch themselves, in the same way.
+pub fn compare_patched() -> Result<u64, String> {
+    let mut report = Report::new("patches");
+    let (mut steps, mut run) = (0, 0);
+    for (name, program) in patched() {
+        report.progress(format!("{name}, {steps} instructions so far"));
+        let place = format!("tools/outside patches (program '{name}')");
+        steps += one_program(&mut report, &program, &place)
+            .map_err(|wrong| format!("{place}: {wrong}"))?;
+        run += 1;
+    }
+    Ok(report.finish(format!(
+        "{steps} instructions in {run} programs that patch themselves, {}",
+        qemu::version()?
+    )))
+}
+
 /// Runs one program up to its end or to the first difference; gives the number of instructions.
 fn one_program(report: &mut Report, program: &Program, place: &str) -> Result<u64, String> {
     let image = gnu::file("program.bin")?;
@@ -51,7 +68,7 @@ fn one_program(report: &mut Report, program: &Program, place: &str) -> Result<u6
     while entry.rest[PC] != BASE {
         entry = qemu.entry()?;
     }
-    let mut sides = [proved(), second()].map(|simulator| Side::new(simulator, &program.image));
+    let mut sides = [proved(), second()].map(|simulator| Side::new(simulator, program));
     sides.iter_mut().for_each(|side| side.hart.x = entry.x);
     let mut steps = 0;
     while sides[0].pc() != program.end {

@@ -1,13 +1,13 @@
 //! Our two simulators, seen alike: the proved one and the second one, each with its own hart and
 //! memory, taken step by step.
 
-use crate::program::BASE;
-use sporhulma::word::PC;
+use crate::program::{Program, BASE};
+use sporhulma::word::{MODE, PC, SATP};
 use sporhulma::Hart;
 
-/// A step of a hart with its memory and no map: the cause if it trapped; an error if it was
+/// A step of a hart with its memory and its map: the cause if it trapped; an error if it was
 /// refused.
-type Step = fn(&mut Hart, &mut [u8]) -> Result<Option<u64>, String>;
+type Step = fn(&mut Hart, &mut [u8], &[u64]) -> Result<Option<u64>, String>;
 
 #[derive(Clone, Copy)]
 pub struct Simulator {
@@ -29,14 +29,14 @@ pub fn second() -> Simulator {
     }
 }
 
-fn step_proved(hart: &mut Hart, memory: &mut [u8]) -> Result<Option<u64>, String> {
-    let answer = sporhulma::step(hart, memory, &[]);
+fn step_proved(hart: &mut Hart, memory: &mut [u8], map: &[u64]) -> Result<Option<u64>, String> {
+    let answer = sporhulma::step(hart, memory, map);
     outcome(answer.refusal, answer.trapped, answer.cause)
 }
 
-fn step_second(hart: &mut Hart, memory: &mut [u8]) -> Result<Option<u64>, String> {
+fn step_second(hart: &mut Hart, memory: &mut [u8], map: &[u64]) -> Result<Option<u64>, String> {
     let mut stepped = ::second::Hart::from_words(&hart.x, &hart.rest);
-    let answer = ::second::step(&mut stepped, memory, &[]);
+    let answer = ::second::step(&mut stepped, memory, map);
     (hart.x, hart.rest) = stepped.to_words();
     outcome(answer.refusal, answer.trapped, answer.cause)
 }
@@ -53,14 +53,16 @@ pub struct Side {
     pub simulator: Simulator,
     pub hart: Hart,
     memory: Vec<u8>,
+    map: Vec<u64>,
 }
 
 impl Side {
-    pub fn new(simulator: Simulator, image: &[u8]) -> Side {
+    pub fn new(simulator: Simulator, program: &Program) -> Side {
         Side {
             simulator,
             hart: Hart::fresh(),
-            memory: image.to_vec(),
+            memory: program.image.clone(),
+            map: program.map.clone(),
         }
     }
 
@@ -68,15 +70,25 @@ impl Side {
         self.hart.rest[PC]
     }
 
+    /// The physical address of pc; none if Sv39 is on and the map has no page there.
+    fn physical(&self) -> Option<u64> {
+        if self.hart.rest[MODE] == 3 || self.hart.rest[SATP] == 0 {
+            return Some(self.pc());
+        }
+        let mut entries = self.map.chunks_exact(2);
+        let leaf = entries.find(|entry| entry[0] == self.pc() >> 12)?[1];
+        Some(leaf >> 10 << 12 | self.pc() & 0xfff)
+    }
+
     /// The word at pc; none if pc is outside memory.
     pub fn word(&self) -> Option<u32> {
-        let at = usize::try_from(self.pc().wrapping_sub(BASE)).ok()?;
+        let at = usize::try_from(self.physical()?.wrapping_sub(BASE)).ok()?;
         let bytes = self.memory.get(at..at.checked_add(4)?)?;
         Some(u32::from_le_bytes(bytes.try_into().expect("four bytes")))
     }
 
     /// One step: the cause if it trapped.
     pub fn step(&mut self) -> Result<Option<u64>, String> {
-        (self.simulator.step)(&mut self.hart, &mut self.memory)
+        (self.simulator.step)(&mut self.hart, &mut self.memory, &self.map)
     }
 }
