@@ -9,16 +9,21 @@ use sporhulma::Hart;
 /// refused.
 type Step = fn(&mut Hart, &mut [u8], &[u64]) -> Result<Option<u64>, String>;
 
+/// A run of so many steps, or fewer if one traps; so.
+pub type Run = fn(&mut Hart, &mut [u8], &[u64], u64) -> Result<Option<u64>, String>;
+
 #[derive(Clone, Copy)]
 pub struct Simulator {
     pub name: &'static str,
     step: Step,
+    pub run: Run,
 }
 
 pub fn proved() -> Simulator {
     Simulator {
         name: "sporhulma",
         step: step_proved,
+        run: run_proved,
     }
 }
 
@@ -26,6 +31,7 @@ pub fn second() -> Simulator {
     Simulator {
         name: "second",
         step: step_second,
+        run: run_second,
     }
 }
 
@@ -41,6 +47,28 @@ fn step_second(hart: &mut Hart, memory: &mut [u8], map: &[u64]) -> Result<Option
     outcome(answer.refusal, answer.trapped, answer.cause)
 }
 
+fn run_proved(
+    hart: &mut Hart,
+    memory: &mut [u8],
+    map: &[u64],
+    steps: u64,
+) -> Result<Option<u64>, String> {
+    let answer = sporhulma::run(hart, memory, map, steps);
+    outcome(answer.refusal, answer.trapped, answer.cause)
+}
+
+fn run_second(
+    hart: &mut Hart,
+    memory: &mut [u8],
+    map: &[u64],
+    steps: u64,
+) -> Result<Option<u64>, String> {
+    let mut run = ::second::Hart::from_words(&hart.x, &hart.rest);
+    let answer = ::second::run(&mut run, memory, map, steps);
+    (hart.x, hart.rest) = run.to_words();
+    outcome(answer.refusal, answer.trapped, answer.cause)
+}
+
 fn outcome(refusal: u64, trapped: bool, cause: u64) -> Result<Option<u64>, String> {
     match refusal {
         0 => Ok(trapped.then_some(cause)),
@@ -49,6 +77,7 @@ fn outcome(refusal: u64, trapped: bool, cause: u64) -> Result<Option<u64>, Strin
 }
 
 /// A simulator with what it works on.
+#[derive(Clone)]
 pub struct Side {
     pub simulator: Simulator,
     pub hart: Hart,
@@ -70,25 +99,35 @@ impl Side {
         self.hart.rest[PC]
     }
 
-    /// The physical address of pc; none if Sv39 is on and the map has no page there.
-    fn physical(&self) -> Option<u64> {
-        if self.hart.rest[MODE] == 3 || self.hart.rest[SATP] == 0 {
-            return Some(self.pc());
-        }
-        let mut entries = self.map.chunks_exact(2);
-        let leaf = entries.find(|entry| entry[0] == self.pc() >> 12)?[1];
-        Some(leaf >> 10 << 12 | self.pc() & 0xfff)
-    }
-
     /// The word at pc; none if pc is outside memory.
     pub fn word(&self) -> Option<u32> {
-        let at = usize::try_from(self.physical()?.wrapping_sub(BASE)).ok()?;
-        let bytes = self.memory.get(at..at.checked_add(4)?)?;
-        Some(u32::from_le_bytes(bytes.try_into().expect("four bytes")))
+        word_at(&self.hart, &self.memory, &self.map)
+    }
+
+    /// So many steps in one run: the cause if it trapped.
+    pub fn run(&mut self, steps: u64) -> Result<Option<u64>, String> {
+        (self.simulator.run)(&mut self.hart, &mut self.memory, &self.map, steps)
     }
 
     /// One step: the cause if it trapped.
     pub fn step(&mut self) -> Result<Option<u64>, String> {
         (self.simulator.step)(&mut self.hart, &mut self.memory, &self.map)
     }
+}
+
+/// The word at a hart's pc; none if there is no memory.
+pub fn word_at(hart: &Hart, memory: &[u8], map: &[u64]) -> Option<u32> {
+    let at = usize::try_from(physical(hart, map)?.wrapping_sub(BASE)).ok()?;
+    let bytes = memory.get(at..at.checked_add(4)?)?;
+    Some(u32::from_le_bytes(bytes.try_into().expect("four bytes")))
+}
+
+/// The physical address of pc; none if Sv39 is on and the map has no page there.
+fn physical(hart: &Hart, map: &[u64]) -> Option<u64> {
+    let pc = hart.rest[PC];
+    if hart.rest[MODE] == 3 || hart.rest[SATP] == 0 {
+        return Some(pc);
+    }
+    let leaf = map.chunks_exact(2).find(|entry| entry[0] == pc >> 12)?[1];
+    Some(leaf >> 10 << 12 | pc & 0xfff)
 }

@@ -84,9 +84,8 @@ impl Plan {
         rest[SATP] = SV39;
         rest[MENVCFG] |= SSE;
         rest[SENVCFG] |= SSE;
-        if random.chance(50) {
-            rest[MENVCFG] &= !LPE;
-            rest[SENVCFG] &= !LPE;
+        for csr in [MENVCFG, SENVCFG] {
+            rest[csr] = rest[csr] & !LPE | if random.chance(40) { LPE } else { 0 };
         }
         rest[MSTATUS] &= !(MPP | MPRV | SAVED_PADS);
         rest[MSTATUS] |= self.below << 11;

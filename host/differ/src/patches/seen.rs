@@ -29,7 +29,9 @@ const SETTINGS: [&str; 8] = [
     "mstatus", "sstatus", "satp", "menvcfg", "senvcfg", "mseccfg", "MRET", "SRET",
 ];
 /// The families of words that are patched in.
-const FORMS: [usize; 17] = [0, 1, 2, 3, 5, 6, 7, 8, 9, 10, 11, 12, 13, 14, 18, 22, 23];
+const FORMS: [usize; 19] = [
+    0, 1, 2, 3, 5, 6, 7, 8, 9, 10, 11, 12, 13, 14, 17, 18, 19, 22, 23,
+];
 
 /// So many of a hundred programs are to run a patched word, and so many one that was run late enough before.
 const LEAST: f64 = 85.0;
@@ -37,6 +39,8 @@ const LEAST_DEEP: f64 = 40.0;
 
 type Sort = (&'static str, &'static str);
 
+/// A word that is to be a landing pad, as the hart expects one.
+const PAD: Sort = ("word", "landing pad");
 /// A store to data in the page of the code that stores.
 const BESIDE: Sort = ("data", "in the code's page");
 const LARGE_CODE: Sort = ("code", "over 1,024 words");
@@ -48,6 +52,7 @@ fn sorts() -> (Vec<Sort>, usize) {
     sorts.extend(DOUBLES.map(|by| ("second word of", by)));
     sorts.extend(PLACES.map(|place| ("word", place)));
     sorts.extend(EDGES.map(|edge| ("word", edge)));
+    sorts.push(PAD);
     sorts.extend(NAMES.map(|name| ("address", name)));
     sorts.extend(RUNS.map(|run| ("run by", run)));
     sorts.extend(MODES.map(|mode| ("run in", mode)));
@@ -208,6 +213,9 @@ impl Seen {
         if let Some(edge) = edge(patched.place, now.pc) {
             self.count(("word", edge), deep);
         }
+        if hart.rest[ELP] == 1 {
+            self.count(PAD, deep);
+        }
         self.count(("address", patched.name), deep);
         self.count(("run by", RUNS[usize::from(now.pc != before.pc)]), deep);
         let view = View::of(&hart.rest);
@@ -342,7 +350,7 @@ impl Seen {
                 let [all, deep] = self.counts.get(sort).copied().unwrap_or_default();
                 format!("{}: {all}/{deep}", sort.1)
             });
-            list(&mut text, &format!("  {}", group[0].0), counts.collect(), 8);
+            list(&mut text, &format!("  {}", group[0].0), counts.collect(), 5);
         }
         text
     }

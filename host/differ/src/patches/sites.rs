@@ -63,6 +63,13 @@ pub struct Site {
     turned: u64,
 }
 
+impl Site {
+    /// The offset of its first word.
+    pub fn word(&self) -> u64 {
+        self.offset & !3
+    }
+}
+
 /// Where the patched word stands.
 #[derive(Clone, Copy, PartialEq, Eq, Debug)]
 enum Place {
@@ -78,7 +85,7 @@ enum Place {
 
 impl Patch {
     /// The words that turn the bits and store: the one that stores is the last.
-    pub fn words(&self) -> Vec<u32> {
+    fn words(&self) -> Vec<u32> {
         let register = match self.by {
             By::Push => self.link,
             _ => VALUE,
@@ -106,9 +113,17 @@ impl Patch {
         self.by.bytes() == 8
     }
 
-    /// The word that gives ssp back what it was.
-    pub fn end(&self) -> Option<u32> {
-        (self.by == By::Push).then(|| i(SYSTEM, 1, 0, KEPT, SSP))
+    /// The word that turns MPRV on for it.
+    fn begin(&self) -> Option<u32> {
+        self.moved.then(|| i(SYSTEM, 2, 0, BITS, MSTATUS))
+    }
+
+    /// The word that turns MPRV off, or gives ssp back what it was.
+    fn end(&self) -> Option<u32> {
+        match self.by {
+            By::Push => Some(i(SYSTEM, 1, 0, KEPT, SSP)),
+            _ => self.moved.then(|| i(SYSTEM, 3, 0, BITS, MSTATUS)),
+        }
     }
 }
 
@@ -203,7 +218,7 @@ impl Writer<'_> {
         let address = self.address(at, ADDRESS, patch.name, target);
         self.words[at..at + 3].copy_from_slice(&address);
         self.words[at + 3] = self.constant(TURNED, site.turned);
-        if patch.end().is_some() {
+        if patch.by == By::Push {
             self.words[at + 4] = i(SYSTEM, 2, KEPT, 0, SSP);
         }
         if patch.moved {
@@ -212,18 +227,19 @@ impl Writer<'_> {
     }
 
     fn once(&mut self, patch: &Patch, place: Place) -> Site {
-        let turn_mprv = |funct3| i(SYSTEM, funct3, 0, BITS, MSTATUS);
-        if patch.moved {
-            self.words.push(turn_mprv(2));
-        }
+        self.words.extend(patch.begin());
         let site = self.laid_out(patch, place);
         let words = 1 + self.random.below(3);
         self.filler(words);
         self.words.extend(patch.end());
-        if patch.moved {
-            self.words.push(turn_mprv(3));
-        }
         site
+    }
+
+    /// A patch whose word stands elsewhere.
+    pub fn stored(&mut self, patch: &Patch) {
+        self.words.extend(patch.begin());
+        self.words.extend(patch.words());
+        self.words.extend(patch.end());
     }
 
     /// The patch and its word, at its place.
@@ -316,6 +332,18 @@ impl Writer<'_> {
         let offset = self.here();
         let [first, second] = [self.half(true), self.half(true) << 32];
         let turned = self.random.pick(&[first, second, second, first | second]);
+        Site { offset, turned }
+    }
+
+    /// A landing pad without a label, whose upper byte a patch turns into another label.
+    pub fn pad(&mut self, patch: &Patch, label: u8) -> Site {
+        if patch.is_double() {
+            self.align(0, 0);
+        }
+        let bytes = patch.by.bytes().min(4);
+        let offset = self.here() + 4 - bytes;
+        self.words.push(u(AUIPC, 0, 0));
+        let turned = u64::from(label) << (8 * (bytes - 1));
         Site { offset, turned }
     }
 

@@ -1,10 +1,13 @@
-//! The same frame under two pages: a function that is run by two of its names, before it is patched and behind that.
+//! Functions that are patched: one is run by two of its names (the same frame under two pages), before it is patched and behind that; of another
+//! the landing pad is patched.
 
 use super::writer::*;
 use formats::*;
 
-/// A jump through x7 expects no landing pad.
+/// A jump through x7 expects no landing pad, and one through x6 expects x7's label, or none.
 const THROUGH: u32 = 7;
+const TO_A_PAD: u32 = 6;
+const LABEL: u32 = 7;
 
 impl Writer<'_> {
     pub fn twice(&mut self) {
@@ -14,8 +17,7 @@ impl Writer<'_> {
         let times = self.times();
         let calls = self.repeated(INNER, times, |writer| {
             let before = writer.both();
-            writer.words.extend(patch.words());
-            writer.words.extend(patch.end());
+            writer.stored(&patch);
             [before, writer.both()]
         });
         let over = self.reserve(1);
@@ -43,5 +45,32 @@ impl Writer<'_> {
         }
         self.words.push(by_the_other);
         self.reserve(1)
+    }
+
+    /// A function with a landing pad that gets another label, mostly the one that is expected.
+    pub fn padded(&mut self) {
+        let patch = self.drawn_for_calls();
+        let setup = self.reserve(Self::SETUP);
+        let label = 1 + self.random.below(255) as u8;
+        let wrong = u32::from(self.random.chance(15));
+        let far = self.reserve(3);
+        let times = self.times();
+        self.repeated(INNER, times, |writer| {
+            writer
+                .words
+                .push(u(LUI, LABEL, u32::from(label) << 12 | wrong));
+            writer.words.push(i(JALR, 0, RA, TO_A_PAD, 0));
+            writer.stored(&patch);
+            writer.words.push(i(JALR, 0, RA, TO_A_PAD, 0));
+        });
+        let over = self.reserve(1);
+        let site = self.pad(&patch, label);
+        let function = site.word();
+        self.filler(2);
+        self.words.push(i(JALR, 0, 0, RA, 0));
+        self.words[over] = j(0, self.here() - self.offset(over));
+        let address = self.address(far, TO_A_PAD, Name::Own, function);
+        self.words[far..far + 3].copy_from_slice(&address);
+        self.set_up(setup, &patch, &site);
     }
 }

@@ -25,6 +25,8 @@ pub struct Taste {
     pub wild: bool,
     /// Loads and stores in the upper half of the data page alone: code is in the lower one.
     pub upper: bool,
+    /// The mode that they are run in.
+    pub mode: u64,
 }
 
 /// A word, and how it is turned into another by storing `bytes` bytes: from which of its bytes on, and the bits that change in them.
@@ -35,6 +37,9 @@ pub struct Turn {
     pub bits: u32,
 }
 
+const SSP: u64 = 0x011;
+const SSCRATCH: u64 = 0x140;
+
 fn scratch(random: &mut Random) -> u32 {
     10 + random.below(6) as u32
 }
@@ -43,8 +48,9 @@ fn scratch(random: &mut Random) -> u32 {
 pub fn tame(random: &mut Random, taste: Taste) -> u32 {
     let [rd, rs1, rs2] = [(); 3].map(|()| scratch(random));
     let word = random.word();
+    let rd = if word >> 32 & 15 == 0 { 0 } else { rd };
     let funct3 = word as u32 & 7;
-    match random.below(28) {
+    match random.below(30) {
         0..=5 => i(OP_IMM, random.pick(&[0, 0, 4]), SUM, SUM, word >> 52),
         6 => i(OP_IMM_32, 0, SUM, SUM, word >> 52),
         7 | 8 => r(OP, random.pick(&[0, 4]), 0, SUM, SUM, rs1),
@@ -67,6 +73,9 @@ pub fn tame(random: &mut Random, taste: Taste) -> u32 {
         22 if taste.skips => b(random.pick(&[0, 1, 4, 5, 6, 7]), rs1, rs2, 8),
         23 | 24 if !taste.plain => load(random, taste, rd),
         25 | 26 if !taste.plain => store(random, taste, rs1),
+        27 if taste.mode == 0 => i(SYSTEM, 2, rd, 0, SSP),
+        27 => i(SYSTEM, random.pick(&[1, 2, 3]), rd, rs1, SSCRATCH),
+        28 if !taste.plain && word & 3 == 0 => push(random.pick(&[1, 5])),
         _ => i(OP_IMM, 0, SUM, SUM, word >> 52),
     }
 }
@@ -96,8 +105,12 @@ fn is_tame(word: u32, taste: Taste) -> bool {
     // An offset with its upper bit set points to the lower half.
     let table = !taste.plain && rs1 == TABLE && !(taste.upper && word >> 31 == 1);
     let width = 1 << (word >> 12 & 3);
+    let csr = u64::from(word >> 20);
     match second::family(word) {
         1 | 2 | 8..=12 | 18 | 22 | 23 => quiet,
+        17 if csr == SSP => quiet && word >> 12 & 0xFF == 2,
+        17 => quiet && taste.mode > 0 && csr == SSCRATCH,
+        19 => !taste.plain,
         3 => quiet && (word == j(rd, 4) || taste.skips && word == j(rd, 8)),
         5 => taste.skips && word & 0xFE00_0F80 == b(0, 0, 0, 8) & 0xFE00_0F80,
         6 => quiet && table && (word >> 20) % width == 0,
@@ -158,18 +171,20 @@ mod tests {
         skips: true,
         wild: false,
         upper: false,
+        mode: 0,
     };
 
     #[test]
     fn what_is_tame_is_known_as_tame() {
         let mut random = Random::of(1, 0, 0);
         let mut families = BTreeSet::new();
-        for skips in [false, true] {
+        for (skips, mode) in [(false, 0), (false, 3), (true, 0), (true, 1)] {
             for (plain, upper) in [(false, false), (false, true), (true, false)] {
                 let taste = Taste {
                     plain,
                     skips,
                     upper,
+                    mode,
                     ..ALL
                 };
                 for _ in 0..2000 {
@@ -179,7 +194,7 @@ mod tests {
                 }
             }
         }
-        let expected = [1, 2, 3, 5, 6, 7, 8, 9, 10, 11, 12, 18, 22, 23];
+        let expected = [1, 2, 3, 5, 6, 7, 8, 9, 10, 11, 12, 17, 18, 19, 22, 23];
         assert_eq!(families, expected.into());
     }
 

@@ -93,6 +93,7 @@ impl Writer<'_> {
             skips: false,
             wild: self.plan.wild,
             upper: self.plan.shared,
+            mode: self.mode,
         }
     }
 
@@ -215,6 +216,7 @@ impl Writer<'_> {
                 let words = self.random.below(40);
                 self.filler(words);
             }
+            13 | 14 => self.padded(),
             _ => self.patch(),
         }
     }

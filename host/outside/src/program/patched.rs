@@ -34,7 +34,7 @@ const ROUNDS: u32 = 19;
 const OTHER: u32 = 20;
 
 const NOP: u32 = 0x13;
-/// The first word of each site, and what a store makes of it; the illegal one is made by one patch.
+/// The first word of each site, and what a patch makes of it.
 fn first() -> u32 {
     addi(SUM, SUM, 1)
 }
@@ -55,23 +55,53 @@ struct Way {
     open: bool,
     /// Whether satp turns: under Sv39 the code is its twin.
     turns: bool,
+    /// Whether an illegal word is patched in too: a trap ends a run, so most have none.
+    traps: bool,
 }
 
-const WAYS: [(&str, Way); 7] = [
-    ("M", way(Mode::M, false, false)),
-    ("M, by MPRV", way(Mode::M, true, false)),
-    ("S, by its own page", way(Mode::S, false, false)),
-    ("S, by another page", way(Mode::S, true, false)),
-    ("S, while satp turns", way(Mode::S, false, true)),
-    ("U, by its own page", way(Mode::U, false, false)),
-    ("U, by another page", way(Mode::U, true, false)),
+const WAYS: [(&str, Way); 9] = [
+    ("M", way(Mode::M)),
+    ("M with traps", way(Mode::M).trapping()),
+    ("M, by MPRV", way(Mode::M).open()),
+    ("S, by its own page", way(Mode::S)),
+    ("S, by another page", way(Mode::S).open()),
+    ("S, while satp turns", way(Mode::S).turning()),
+    ("U, by its own page", way(Mode::U)),
+    ("U, by another page", way(Mode::U).open()),
+    (
+        "U, by another page with traps",
+        way(Mode::U).open().trapping(),
+    ),
 ];
 
-const fn way(mode: Mode, open: bool, turns: bool) -> Way {
-    Way { mode, open, turns }
+const fn way(mode: Mode) -> Way {
+    Way {
+        mode,
+        open: false,
+        turns: false,
+        traps: false,
+    }
 }
 
 impl Way {
+    const fn open(self) -> Way {
+        Way { open: true, ..self }
+    }
+
+    const fn turning(self) -> Way {
+        Way {
+            turns: true,
+            ..self
+        }
+    }
+
+    const fn trapping(self) -> Way {
+        Way {
+            traps: true,
+            ..self
+        }
+    }
+
     /// The address at which the code is run that lies at this physical one.
     fn run_at(self, physical: u64) -> u64 {
         if self.mode == Mode::M || self.turns {
@@ -275,7 +305,7 @@ impl Writer {
     fn patch(&mut self, width: u32, place: Place, at: Option<u64>) {
         let setup = self.words.len();
         self.words.extend([NOP; 2]);
-        let (behind, turned) = turned(width, place);
+        let (behind, turned) = self.turned(width, place);
         self.words.extend(turned);
         self.words.push(addi(TIMES, 0, 4));
         let (body, site) = self.body(width, place);
@@ -350,11 +380,33 @@ impl Writer {
         self.words[setup..setup + 2].copy_from_slice(&setting);
     }
 
+    /// How far behind the site's first byte a patch of a width stores, and the words that give the bits that it turns there.
+    fn turned(&self, width: u32, place: Place) -> (u64, Vec<u32>) {
+        let bits = (first() ^ second()) as i32;
+        let made_illegal = (first() ^ illegal()) as i32;
+        let upper = i_type(OP_IMM, 1, TURNED, TURNED, 32);
+        match (width, place) {
+            (0, _) => (3, vec![addi(TURNED, 0, 1)]),
+            (1, _) => (2, vec![addi(TURNED, 0, 0x30)]),
+            (2, Place::Ahead) if self.way.traps => (0, constant(TURNED, made_illegal).to_vec()),
+            // The second word is the store.
+            (2, _) | (_, Place::JustRun) => (0, positive(bits)),
+            (_, Place::Next) => (0, [constant(TURNED, bits).to_vec(), vec![upper]].concat()),
+            _ => {
+                let both = r_type(OP, 0, 0, TURNED, TURNED, VALUE);
+                let mut words = positive(bits);
+                words.extend([addi(VALUE, TURNED, 0), upper, both]);
+                (0, words)
+            }
+        }
+    }
+
     /// A function that is run from both of its pages, before each patch and behind it.
     fn twice(&mut self) {
         let setup = self.words.len();
         self.words.extend([NOP; 4]);
-        self.words.extend(turned(2, Place::Next).1);
+        let (_, turned) = self.turned(2, Place::Next);
+        self.words.extend(turned);
         self.words.push(addi(TIMES, 0, 4));
         let start = self.here();
         let function = start + 4 * 10;
@@ -377,27 +429,6 @@ impl Writer {
             relative(THROUGH, self.at(setup + 2), function + AGAIN),
         ];
         self.words[setup..setup + 4].copy_from_slice(setting.as_flattened());
-    }
-}
-
-/// How far behind the site's first byte a patch of a width stores, and the words that give the bits that it turns there.
-fn turned(width: u32, place: Place) -> (u64, Vec<u32>) {
-    let bits = (first() ^ second()) as i32;
-    let made_illegal = (first() ^ illegal()) as i32;
-    let upper = i_type(OP_IMM, 1, TURNED, TURNED, 32);
-    match (width, place) {
-        (0, _) => (3, vec![addi(TURNED, 0, 1)]),
-        (1, _) => (2, vec![addi(TURNED, 0, 0x30)]),
-        (2, Place::Ahead) => (0, constant(TURNED, made_illegal).to_vec()),
-        // The second word is the store.
-        (2, _) | (_, Place::JustRun) => (0, positive(bits)),
-        (_, Place::Next) => (0, [constant(TURNED, bits).to_vec(), vec![upper]].concat()),
-        _ => {
-            let both = r_type(OP, 0, 0, TURNED, TURNED, VALUE);
-            let mut words = positive(bits);
-            words.extend([addi(VALUE, TURNED, 0), upper, both]);
-            (0, words)
-        }
     }
 }
 
