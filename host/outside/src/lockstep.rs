@@ -7,7 +7,8 @@
 //! differences in tval are known, and one in CTZW's count (`Choice`): there our value is checked by
 //! itself and then set to QEMU's, so that the programs stay together. What programs do not do,
 //! because the two may differ there, is written in program/body.rs, program/csrs.rs and, for MPRV,
-//! program.rs.
+//! program.rs. The fixed programs that patch themselves (program/patched.rs) are also compared by runs,
+//! since a run may remember what it has decoded.
 
 use crate::gnu;
 use crate::program::{generate, patched, Program, BASE};

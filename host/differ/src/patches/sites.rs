@@ -70,7 +70,7 @@ impl Site {
     }
 }
 
-/// Where the patched word stands.
+/// Where the patched word stands, seen from the instruction that stores; so many words ahead of it or behind it.
 #[derive(Clone, Copy, PartialEq, Eq, Debug)]
 enum Place {
     Next,

@@ -1,11 +1,11 @@
 //! Lays out the words of a program that patches itself.
 //!
-//! x9 and x18 count loops, x31 points to the middle of the constants' page, x25 to x27 to the code's other names; x16, x17, x22, x23 and x29 are the
-//! patches' own. What else there is, is in words.rs and program.rs.
+//! x9 and x18 count loops, x31 points to the middle of the constants' page, x25 to x27 to the code's other names; x16, x17, x20 to x23 and x29 are
+//! the patches' own, x6 and x7 those of calls. What else there is, is in words.rs and program.rs.
 
 use super::pages::CODE;
 use super::plan::{Kind, Plan};
-use super::words::{tame, Taste};
+use super::words::{tame, Taste, NOP};
 use crate::case::PAGE;
 use crate::program::Program;
 use crate::random::Random;
@@ -40,7 +40,7 @@ pub struct Writer<'a> {
     pub plan: Plan,
     /// The mode of the next word.
     pub mode: u64,
-    /// Whether the code's second name is no other one any more.
+    /// Whether it is run by its second name, and the first one is out of reach.
     pub alone: bool,
     /// The virtual addresses at which the code, and its second name, start.
     pub code: u64,
@@ -83,7 +83,7 @@ impl Writer<'_> {
     /// Room for words that are known only later; gives the place of the first.
     pub fn reserve(&mut self, words: usize) -> usize {
         let at = self.words.len();
-        self.words.resize(at + words, super::words::NOP);
+        self.words.resize(at + words, NOP);
         at
     }
 
@@ -138,7 +138,7 @@ impl Writer<'_> {
                 let distance = offset.wrapping_sub(self.offset(at));
                 let upper = distance.wrapping_add(0x800) >> 12;
                 let low = i(OP_IMM, 0, rd, rd, distance);
-                return [u(AUIPC, rd, upper as u32), low, super::words::NOP];
+                return [u(AUIPC, rd, upper as u32), low, NOP];
             }
             Name::Open => OPEN,
             Name::Stack => STACK,

@@ -15,7 +15,8 @@ const FRAMES: std::ops::Range<u64> = 1..4;
 const TWIN: u64 = 4;
 /// The page tables of Sv39: the root, the next one and the leaves.
 const TABLES: [u64; 3] = [BASE + 0xd000, BASE + 0xe000, BASE + 0xf000];
-/// Under Sv39 the page of a frame has the frame's address and this one as well; the same frame is so far behind it to be run again, and to be written.
+/// Under Sv39 the page of a frame has the frame's address and one from here on as well; so far behind it the same frame is to be run again, and to be
+/// written.
 const VIRTUAL: u64 = 0x4000_0000;
 const AGAIN: u64 = 0x1_0000;
 const OPEN: u64 = 0x2_0000;
