@@ -41,6 +41,12 @@ pub fn take_again(case: &Case, steps: u64, memory: &mut Vec<u8>, mut look: impl 
 
 /// The word at pc: where Sv39 is in force the one that the map leads to, if there is one, whatever its leaf allows.
 pub fn word_at(hart: &Hart, mem: &[u8], map: &[u64]) -> Option<u32> {
+    let bytes = mem.get(place_at(hart, map)?..)?.first_chunk()?;
+    Some(u32::from_le_bytes(*bytes))
+}
+
+/// The place in memory that pc leads to, if memory is so long.
+pub fn place_at(hart: &Hart, map: &[u64]) -> Option<usize> {
     let pc = hart.rest[PC];
     let at = if View::of(&hart.rest).fetch_sv39 {
         let frame = place(leaf(map, pc)?);
@@ -48,6 +54,5 @@ pub fn word_at(hart: &Hart, mem: &[u8], map: &[u64]) -> Option<u32> {
     } else {
         pc.checked_sub(BASE)?
     };
-    let bytes = mem.get(usize::try_from(at).ok()?..)?.first_chunk()?;
-    Some(u32::from_le_bytes(*bytes))
+    usize::try_from(at).ok()
 }

@@ -32,6 +32,7 @@ const TEST: Amounts = Amounts {
     steps: Some(1_000_000),
     runs: Some(20_000),
     pairs: Some(100_000),
+    patches: Some(4_000),
 };
 const TEST_TEXTS: Option<u64> = Some(100_000);
 const TEST_EIGHTS: Option<u64> = Some(2_000_000);
@@ -40,6 +41,7 @@ const TEST_EIGHTS: Option<u64> = Some(2_000_000);
 const STEPS_AT_ONCE: u64 = 5_000;
 const RUNS_AT_ONCE: u64 = 100;
 const PAIRS_AT_ONCE: u64 = 500;
+const PATCHES_AT_ONCE: u64 = 20;
 const TEXTS_AT_ONCE: u64 = 1_000;
 const EIGHTS_AT_ONCE: u64 = 10_000;
 
@@ -125,6 +127,7 @@ fn test() -> ExitCode {
     let eights = eights(TEST_SEED, TEST_EIGHTS);
     let mut complaints = soak.mix.complaints(true);
     complaints.extend(soak.seen.complaints());
+    complaints.extend(soak.patched.complaints());
     complaints.extend(texts.seen.complaints());
     complaints.extend(eights.complaints());
     // A test that ended early because of differences has seen little: only these are said then.
@@ -172,43 +175,53 @@ impl Part {
     }
 }
 
-/// Steps, runs and pairs by turns. Prints the mix and the verdict.
+/// Steps, runs, pairs and patches by turns. Prints the mix and the verdict.
 fn soak(seed: u64, amounts: Amounts) -> Soak<Proved, Second> {
     let mut soak = Soak::new(Proved, Second, seed);
     let mut progress = Progress::new();
-    let [mut steps, mut runs, mut pairs] =
-        [amounts.steps, amounts.runs, amounts.pairs].map(Part::new);
+    let mut parts = [amounts.steps, amounts.runs, amounts.pairs, amounts.patches].map(Part::new);
     let mut printed = 0;
-    while !soak.done() && (steps.more() || runs.more() || pairs.more()) {
+    while !soak.done() && parts.iter().any(Part::more) {
+        let [steps, runs, pairs, patches] = &mut parts;
         steps.go_on(STEPS_AT_ONCE, &mut soak, Soak::step);
         runs.go_on(RUNS_AT_ONCE, &mut soak, Soak::run);
         pairs.go_on(PAIRS_AT_ONCE, &mut soak, Soak::pair);
+        patches.go_on(PATCHES_AT_ONCE, &mut soak, Soak::patch);
         for failure in &soak.failures[printed..] {
             progress.clear();
             print_failure(failure);
         }
         printed = soak.failures.len();
-        progress.show(|| {
-            let (steps, runs, pairs) = (steps.made, runs.made, pairs.made);
-            format!("{steps} steps, {runs} runs, {pairs} pairs, {printed} differences")
-        });
+        progress.show(|| format!("{}, {printed} differences", counted(&parts)));
     }
     progress.clear();
-    if steps.made + runs.made > 0 {
-        say!("{}", soak.mix.text().trim_end());
-    }
-    if pairs.made > 0 {
-        say!("{}", soak.seen.text().trim_end());
-    }
+    print_mix(&soak, &parts);
+    let [.., pairs, patches] = parts.each_ref().map(|part| part.took.as_secs_f64());
     say!(
-        "differ: {printed} differences in {} steps, {} runs and {} pairs of seed {seed}, {:.1} s ({:.1} s the pairs)",
-        steps.made,
-        runs.made,
-        pairs.made,
-        progress.start.elapsed().as_secs_f64(),
-        pairs.took.as_secs_f64()
+        "differ: {printed} differences in {} of seed {seed}, {:.1} s ({pairs:.1} s the pairs, {patches:.1} s the patches)",
+        counted(&parts),
+        progress.start.elapsed().as_secs_f64()
     );
     soak
+}
+
+fn counted(parts: &[Part; 4]) -> String {
+    let [steps, runs, pairs, patches] = parts.each_ref().map(|part| part.made);
+    format!("{steps} steps, {runs} runs, {pairs} pairs and {patches} patches")
+}
+
+/// What the cases were, of the kinds that were made.
+fn print_mix(soak: &Soak<Proved, Second>, parts: &[Part; 4]) {
+    let [steps, runs, pairs, patches] = parts.each_ref().map(|part| part.made);
+    for (made, text) in [
+        (steps + runs, soak.mix.text()),
+        (pairs, soak.seen.text()),
+        (patches, soak.patched.text()),
+    ] {
+        if made > 0 {
+            say!("{}", text.trim_end());
+        }
+    }
 }
 
 /// Texts one after the other. Prints what they were and the verdict.
@@ -282,6 +295,9 @@ fn print_failure(failure: &Failure) {
                 let path = path.canonicalize().unwrap_or(path);
                 say!("  the call alone: tools/differ again {}", path.display());
             }
+            if let Name::Patch(_) = failure.name {
+                say!("  (this compares the simulators on that call; a run with its two parts, only the line 'again')");
+            }
             if failure.other.is_some() {
                 say!("  (these compare the simulators on one memory each; the two memories, only the line 'again')");
             }
@@ -354,6 +370,7 @@ fn again(seed: u64, name: Name) -> ExitCode {
         Name::Step(number) => soak.step(number),
         Name::Run(number) => soak.run(number),
         Name::Pair(number) => soak.pair(number),
+        Name::Patch(number) => soak.patch(number),
     }
     for failure in &soak.failures {
         print_failure(failure);

@@ -6,13 +6,15 @@ use crate::text::number;
 pub const HELP: &str = "\
 differ: the proved simulator (left) against the second, independent one (right)
 
-  differ test                 1,000,000 steps, 20,000 runs, 100,000 pairs, 100,000 texts and 2,000,000 eights of a fixed
-                              seed; this is what ./test runs
-  differ soak [--steps N] [--runs N] [--pairs N] [--seed S]
-                              any number (default 10,000,000, 200,000 and 1,000,000, seed 1);
+  differ test                 1,000,000 steps, 20,000 runs, 100,000 pairs, 4,000 patches, 100,000 texts and 2,000,000
+                              eights of a fixed seed; this is what ./test runs
+  differ soak [--steps N] [--runs N] [--pairs N] [--patches N] [--seed S]
+                              any number (default 10,000,000, 200,000, 1,000,000 and 40,000, seed 1);
                               0 means until stopped, and then no summary is printed
   differ pairs [--count N] [--seed S]
                               pairs alone (default 100,000, seed 1)
+  differ patches [--count N] [--seed S]
+                              programs that patch themselves alone (default 40,000, seed 1)
   differ hex [--count N] [--seed S]
                               texts in Intel HEX (default 1,000,000, seed 1; 0 means until stopped)
   differ hex FILE [--memory BYTES]
@@ -21,14 +23,17 @@ differ: the proved simulator (left) against the second, independent one (right)
                               instructions as eight numbers (default 10,000,000, seed 1; 0 means until stopped)
   differ again FILE           one case from the file that a failure wrote
   differ again --seed S --case N
-                              step N of a seed; --run N, --pair N or --text N in place of --case N: run, pair or
-                              text N of a seed
+                              step N of a seed; --run N, --pair N, --patch N or --text N in place of --case N: run,
+                              pair, patch or text N of a seed
   differ decoder              the decoder's verdict on all 2^32 words, and each through a read and a write, on all cores
   differ --help               this text
 
 A pair (request A13) is a user's hart and map with two memories that differ in every byte of each frame that no valid
 entry with U names: on each simulator the calls must answer alike with both, up to and including the first trap, and
 leave the named frames alike and the other ones as they were. Beside that the two simulators must agree on each memory.
+
+A patch is a program that stores over its own code, by stores, pushes and swaps, and runs what it stored; it is for a run
+that remembers what it has decoded. A run of it and the same run in two parts must end alike, on both simulators.
 
 A text (request A7) is good, damaged in one of the ways that the request names, or changed at random; the two readers must
 answer alike and leave the same bytes, and those for which a good or damaged text was made.
@@ -39,8 +44,8 @@ it must give the same numbers, exactly where the header's table has them, and el
 A difference is printed with the words and bytes that differ and the command that runs its case again; its case or text is
 written to target/differ/ (an eight's numbers stand in its line). After 5 differences the command ends.
 Exit status: 0 no difference, 1 a difference (for test also: a kind of case or text that was not seen, under 60 % of the
-pairs of three completed steps and more with a load and a store that reached memory, under 40 % of the texts loaded, or
-under 35 % of the eights written or refused),
+pairs of three completed steps and more with a load and a store that reached memory, under 85 % of the patches with a
+patched word that was run, under 40 % of the texts loaded, or under 35 % of the eights written or refused),
 2 wrong usage.
 ";
 
@@ -64,9 +69,20 @@ pub struct Amounts {
     pub steps: Option<u64>,
     pub runs: Option<u64>,
     pub pairs: Option<u64>,
+    pub patches: Option<u64>,
 }
 
-const COMMANDS: &str = "right is test, soak, pairs, hex, eights, again, decoder or --help";
+impl Amounts {
+    /// No case of any kind.
+    pub const NONE: Amounts = Amounts {
+        steps: Some(0),
+        runs: Some(0),
+        pairs: Some(0),
+        patches: Some(0),
+    };
+}
+
+const COMMANDS: &str = "right is test, soak, pairs, patches, hex, eights, again, decoder or --help";
 
 /// A text may ask for no more memory than a little over the most that is accepted.
 const MOST_MEMORY: u64 = 0x20_0000;
@@ -80,6 +96,7 @@ pub fn parse(args: &[String]) -> Result<Command, String> {
         ["decoder"] => Ok(Command::Decoder),
         ["soak", ref options @ ..] => soak(options),
         ["pairs", ref options @ ..] => pairs(options),
+        ["patches", ref options @ ..] => patches(options),
         ["hex", file, ref options @ ..] if !file.starts_with('-') => text_file(file, options),
         ["hex", ref options @ ..] => texts(options),
         ["eights", ref options @ ..] => eights(options),
@@ -121,12 +138,14 @@ fn amount(given: Option<u64>, otherwise: u64) -> Option<u64> {
 }
 
 fn soak(options: &[&str]) -> Result<Command, String> {
-    let [steps, runs, pairs, seed] = values(options, ["--steps", "--runs", "--pairs", "--seed"])?;
+    let names = ["--steps", "--runs", "--pairs", "--patches", "--seed"];
+    let [steps, runs, pairs, patches, seed] = values(options, names)?;
     Ok(Command::Soak {
         amounts: Amounts {
             steps: amount(steps, 10_000_000),
             runs: amount(runs, 200_000),
             pairs: amount(pairs, 1_000_000),
+            patches: amount(patches, 40_000),
         },
         seed: seed.unwrap_or(1),
     })
@@ -136,9 +155,19 @@ fn pairs(options: &[&str]) -> Result<Command, String> {
     let [count, seed] = values(options, ["--count", "--seed"])?;
     Ok(Command::Soak {
         amounts: Amounts {
-            steps: Some(0),
-            runs: Some(0),
             pairs: amount(count, 100_000),
+            ..Amounts::NONE
+        },
+        seed: seed.unwrap_or(1),
+    })
+}
+
+fn patches(options: &[&str]) -> Result<Command, String> {
+    let [count, seed] = values(options, ["--count", "--seed"])?;
+    Ok(Command::Soak {
+        amounts: Amounts {
+            patches: amount(count, 40_000),
+            ..Amounts::NONE
         },
         seed: seed.unwrap_or(1),
     })
@@ -174,14 +203,14 @@ fn text_file(file: &str, options: &[&str]) -> Result<Command, String> {
 }
 
 fn again(options: &[&str]) -> Result<Command, String> {
-    let right =
-        "right is 'again FILE' or 'again --seed S' with '--case N', '--run N', '--pair N' or '--text N'";
-    let names = ["--seed", "--case", "--run", "--pair", "--text"];
+    let right = "right is 'again FILE' or 'again --seed S' with '--case N', '--run N', '--pair N', '--patch N' or '--text N'";
+    let names = ["--seed", "--case", "--run", "--pair", "--patch", "--text"];
     let (seed, name) = match values(options, names)? {
-        [Some(seed), Some(step), None, None, None] => (seed, Name::Step(step)),
-        [Some(seed), None, Some(run), None, None] => (seed, Name::Run(run)),
-        [Some(seed), None, None, Some(pair), None] => (seed, Name::Pair(pair)),
-        [Some(seed), None, None, None, Some(number)] => {
+        [Some(seed), Some(step), None, None, None, None] => (seed, Name::Step(step)),
+        [Some(seed), None, Some(run), None, None, None] => (seed, Name::Run(run)),
+        [Some(seed), None, None, Some(pair), None, None] => (seed, Name::Pair(pair)),
+        [Some(seed), None, None, None, Some(patch), None] => (seed, Name::Patch(patch)),
+        [Some(seed), None, None, None, None, Some(number)] => {
             return Ok(Command::AgainText { seed, number })
         }
         _ => return Err(format!("'again' does not know which case: {right}")),
@@ -212,7 +241,8 @@ mod tests {
                 amounts: Amounts {
                     steps: None,
                     runs: Some(200_000),
-                    pairs: Some(1_000_000)
+                    pairs: Some(1_000_000),
+                    patches: Some(40_000)
                 },
                 seed: 16
             })
@@ -221,11 +251,20 @@ mod tests {
             parsed("pairs --count 7"),
             Ok(Command::Soak {
                 amounts: Amounts {
-                    steps: Some(0),
-                    runs: Some(0),
-                    pairs: Some(7)
+                    pairs: Some(7),
+                    ..Amounts::NONE
                 },
                 seed: 1
+            })
+        );
+        assert_eq!(
+            parsed("patches --count 7 --seed 2"),
+            Ok(Command::Soak {
+                amounts: Amounts {
+                    patches: Some(7),
+                    ..Amounts::NONE
+                },
+                seed: 2
             })
         );
         assert_eq!(
@@ -273,6 +312,13 @@ mod tests {
             })
         );
         assert_eq!(
+            parsed("again --patch 9 --seed 3"),
+            Ok(Command::Again {
+                seed: 3,
+                name: Name::Patch(9)
+            })
+        );
+        assert_eq!(
             parsed("again --case 9 --seed 3"),
             Ok(Command::Again {
                 seed: 3,
@@ -293,6 +339,7 @@ mod tests {
             ("soak --seed 1 --seed 2", "--seed is given twice"),
             ("soak --cases 5", "'--cases' is no option here"),
             ("pairs --steps 5", "'--steps' is no option here"),
+            ("patches --pairs 5", "'--pairs' is no option here"),
             ("hex --steps 5", "'--steps' is no option here"),
             ("eights --runs 5", "'--runs' is no option here"),
             ("hex --count", "--count needs a number"),
@@ -314,6 +361,10 @@ mod tests {
             ),
             (
                 "again --seed 1 --pair 2 --text 3",
+                "'again' does not know which case",
+            ),
+            (
+                "again --seed 1 --patch 2 --pair 3",
                 "'again' does not know which case",
             ),
             ("again a b", "'a' is no option here"),

@@ -35,6 +35,14 @@ impl Side {
         self.answer = catch_unwind(AssertUnwindSafe(call)).ok();
     }
 
+    /// Whether it has answered, and the same as the other, and left the same.
+    pub fn is_like(&self, other: &Side) -> bool {
+        self.answer.is_some()
+            && self.answer == other.answer
+            && self.hart == other.hart
+            && self.mem == other.mem
+    }
+
     pub fn answer_text(&self) -> String {
         match self.answer {
             None => "panicked".to_string(),
@@ -61,30 +69,31 @@ impl Pair {
     pub fn agree(&mut self, left: &impl Simulator, right: &impl Simulator, case: &Case) -> bool {
         self.left.run(left, case);
         self.right.run(right, case);
-        self.left.answer.is_some()
-            && self.left.answer == self.right.answer
-            && self.left.hart == self.right.hart
-            && self.left.mem == self.right.mem
+        self.left.is_like(&self.right)
     }
 
     /// What each gave, and the words and bytes that differ, a line each.
     pub fn differences(&self) -> Vec<String> {
-        let (left, right) = (&self.left, &self.right);
-        let mut lines = vec![
-            format!("left:  {}", left.answer_text()),
-            format!("right: {}", right.answer_text()),
-        ];
-        lines.extend(words_that_differ(&left.hart, &right.hart));
-        for (at, (one, other)) in left.mem.iter().zip(&right.mem).enumerate() {
-            if one != other {
-                let address = BASE + at as u64;
-                lines.push(format!(
-                    "byte {address:#x}: left {one:#04x}, right {other:#04x}"
-                ));
-            }
-        }
-        lines
+        sides_that_differ(&self.left, &self.right)
     }
+}
+
+/// What each side gave, and the words and bytes that differ, a line each.
+pub fn sides_that_differ(left: &Side, right: &Side) -> Vec<String> {
+    let mut lines = vec![
+        format!("left:  {}", left.answer_text()),
+        format!("right: {}", right.answer_text()),
+    ];
+    lines.extend(words_that_differ(&left.hart, &right.hart));
+    for (at, (one, other)) in left.mem.iter().zip(&right.mem).enumerate() {
+        if one != other {
+            let address = BASE + at as u64;
+            lines.push(format!(
+                "byte {address:#x}: left {one:#04x}, right {other:#04x}"
+            ));
+        }
+    }
+    lines
 }
 
 /// The words of two harts that differ, a line each.

@@ -137,7 +137,7 @@ pub fn write(case: &mut Case, place: u64, words: &[u32]) {
     }
 }
 
-fn write_handlers(maker: &mut Maker) {
+pub fn write_handlers(maker: &mut Maker) {
     for (start, mode, epc, back) in [(0, 3, 0x341, MRET), (S_HANDLER, 1, 0x141, SRET)] {
         let words = handler(maker.random, mode, epc, back);
         write(maker.case, maker.world.offset(Role::Handler, start), &words);

@@ -3,6 +3,8 @@
 use crate::case::Case;
 use crate::mix::Mix;
 use crate::pair::Pair;
+use crate::patches;
+use crate::patches::check::Parts;
 use crate::seen::Seen;
 use crate::simulator::Simulator;
 use crate::twins::Twins;
@@ -12,12 +14,13 @@ use std::path::{Path, PathBuf};
 /// After so many failures a soak ends.
 pub const MOST_FAILURES: usize = 5;
 
-/// Which case: step, run or pair `number` of a seed.
+/// Which case: step, run, pair or program that patches itself, `number` of a seed.
 #[derive(Clone, Copy, PartialEq, Eq, Debug)]
 pub enum Name {
     Step(u64),
     Run(u64),
     Pair(u64),
+    Patch(u64),
 }
 
 impl std::fmt::Display for Name {
@@ -26,12 +29,13 @@ impl std::fmt::Display for Name {
             Name::Step(number) => write!(f, "step {number}"),
             Name::Run(number) => write!(f, "run {number}"),
             Name::Pair(number) => write!(f, "pair {number}"),
+            Name::Patch(number) => write!(f, "patch {number}"),
         }
     }
 }
 
-/// A case on which the two differ. For a run it is the state before the call that differs, not the program's start; for a
-/// pair too, and `other` is the same with the other memory.
+/// A case on which the two differ. For a run it is the state before the call that differs, not the program's start; for a program that patches
+/// itself too, and for a pair, where `other` is the same with the other memory.
 pub struct Failure {
     pub seed: u64,
     pub name: Name,
@@ -74,6 +78,7 @@ impl Failure {
             Name::Step(number) => format!("--case {number}"),
             Name::Run(number) => format!("--run {number}"),
             Name::Pair(number) => format!("--pair {number}"),
+            Name::Patch(number) => format!("--patch {number}"),
         };
         format!("tools/differ again --seed {} {which}", self.seed)
     }
@@ -86,8 +91,10 @@ pub struct Soak<L, R> {
     pair: Pair,
     case: Case,
     twins: Twins,
+    parts: Parts,
     pub mix: Mix,
     pub seen: Seen,
+    pub patched: patches::seen::Seen,
     pub failures: Vec<Failure>,
 }
 
@@ -100,8 +107,10 @@ impl<L: Simulator, R: Simulator> Soak<L, R> {
             pair: Pair::default(),
             case: Case::empty(),
             twins: Twins::default(),
+            parts: Parts::default(),
             mix: Mix::default(),
             seen: Seen::default(),
+            patched: patches::seen::Seen::default(),
             failures: Vec::new(),
         }
     }
@@ -149,6 +158,23 @@ impl<L: Simulator, R: Simulator> Soak<L, R> {
         }
     }
 
+    /// A program that patches itself, by the calls of its row.
+    pub fn patch(&mut self, number: u64) {
+        let simulators = (&self.left, &self.right);
+        let wrong = self
+            .parts
+            .check(simulators, self.seed, number, &mut self.patched);
+        if !wrong.is_empty() {
+            self.failures.push(Failure {
+                seed: self.seed,
+                name: Name::Patch(number),
+                case: self.parts.made.case.clone(),
+                other: None,
+                differences: wrong,
+            });
+        }
+    }
+
     fn compare(&mut self, name: Name) -> bool {
         let same = self.pair.agree(&self.left, &self.right, &self.case);
         if !same {
@@ -187,9 +213,22 @@ mod tests {
     }
 
     #[test]
+    fn the_patches_have_everything() {
+        let mut soak = Soak::new(Second, Second, 1);
+        (0..2_000).for_each(|number| soak.patch(number));
+        assert!(soak.failures.is_empty());
+        assert_eq!(soak.patched.complaints(), Vec::<String>::new());
+    }
+
+    #[test]
     fn an_empty_mix_has_nothing() {
         assert_eq!(Mix::default().complaints(true).len(), 24 + 16 + 4 + 1 + 2);
         assert_eq!(Mix::default().complaints(false).len(), 24 + 16 + 3 + 1 + 1);
         assert_eq!(Seen::default().complaints().len(), 30 + 14 + 14 + 7 + 4 + 1);
+        let patched = patches::seen::Seen::default().complaints();
+        assert_eq!(
+            patched.len(),
+            7 + 3 + 9 + 3 + 2 + 4 + 1 + 8 + 19 + 1 + 36 + 2
+        );
     }
 }

@@ -111,7 +111,7 @@ fn leaf(random: &mut Random, role: Role, user: bool) -> u64 {
 }
 
 /// Spoils a leaf: one of its low bits turned, a reserved bit set, or a frame that is another one or lies outside memory.
-fn spoiled(random: &mut Random, leaf: u64, mem_pages: u64) -> u64 {
+pub fn spoiled(random: &mut Random, leaf: u64, mem_pages: u64) -> u64 {
     match random.below(8) {
         0..=4 => leaf ^ random.one_bit(0xFF),
         5 => leaf | random.one_bit(RESERVED),

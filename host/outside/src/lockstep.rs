@@ -7,13 +7,14 @@
 //! differences in tval are known, and one in CTZW's count (`Choice`): there our value is checked by
 //! itself and then set to QEMU's, so that the programs stay together. What programs do not do,
 //! because the two may differ there, is written in program/body.rs, program/csrs.rs and, for MPRV,
-//! program.rs.
+//! program.rs. The fixed programs that patch themselves (program/patched.rs) are also compared by runs,
+//! since a run may remember what it has decoded.
 
 use crate::gnu;
-use crate::program::{generate, Program, BASE};
+use crate::program::{generate, patched, Program, BASE};
 use crate::qemu::{self, Entry, Qemu, LOGGED};
 use crate::report::Report;
-use crate::side::{proved, second, Side};
+use crate::side::{proved, second, Side, Simulator};
 use formats::extensions::added;
 use sporhulma::word::{MODE, MTVAL, PC, STVAL};
 use sporhulma::{Hart, REST};
@@ -29,8 +30,9 @@ pub fn compare(seed: u64, programs: Range<u64>) -> Result<u64, String> {
         report.progress(format!("program {number}, {steps} instructions so far"));
         let program = generate(seed, number);
         let place = format!("tools/outside qemu --seed {seed} --program {number}");
-        steps += one_program(&mut report, &program, &place)
+        let logged = one_program(&mut report, &program, &place)
             .map_err(|wrong| format!("{place}: {wrong}"))?;
+        steps += logged.after.len();
         run += 1;
         if report.differences() >= ENOUGH {
             break;
@@ -42,8 +44,37 @@ pub fn compare(seed: u64, programs: Range<u64>) -> Result<u64, String> {
     )))
 }
 
-/// Runs one program up to its end or to the first difference; gives the number of instructions.
-fn one_program(report: &mut Report, program: &Program, place: &str) -> Result<u64, String> {
+/// The fixed programs that patch themselves, in the same way, and then by runs.
+pub fn compare_patched() -> Result<u64, String> {
+    let mut report = Report::new("patches");
+    let (mut steps, mut run) = (0, 0);
+    for (name, program) in patched() {
+        report.progress(format!("{name}, {steps} instructions so far"));
+        let place = format!("tools/outside patches (program '{name}')");
+        let logged = one_program(&mut report, &program, &place)
+            .map_err(|wrong| format!("{place}: {wrong}"))?;
+        for simulator in [proved(), second()] {
+            if let Err(different) = by_runs(&mut report, simulator, &program, &logged) {
+                report.difference(format!("{different}; again: {place}"));
+            }
+        }
+        steps += logged.after.len();
+        run += 1;
+    }
+    Ok(report.finish(format!(
+        "{steps} instructions in {run} programs that patch themselves, {}",
+        qemu::version()?
+    )))
+}
+
+/// What QEMU logged of a program: the registers at its start, and the state after each instruction.
+struct Logged {
+    start: [u64; 32],
+    after: Vec<Entry>,
+}
+
+/// Runs one program up to its end or to the first difference; gives what QEMU logged.
+fn one_program(report: &mut Report, program: &Program, place: &str) -> Result<Logged, String> {
     let image = gnu::file("program.bin")?;
     gnu::write(&image, &program.image)?;
     let mut qemu = Qemu::start(&image)?;
@@ -51,22 +82,57 @@ fn one_program(report: &mut Report, program: &Program, place: &str) -> Result<u6
     while entry.rest[PC] != BASE {
         entry = qemu.entry()?;
     }
-    let mut sides = [proved(), second()].map(|simulator| Side::new(simulator, &program.image));
+    let mut sides = [proved(), second()].map(|simulator| Side::new(simulator, program));
     sides.iter_mut().for_each(|side| side.hart.x = entry.x);
-    let mut steps = 0;
+    let mut logged = Logged {
+        start: entry.x,
+        after: Vec::new(),
+    };
     while sides[0].pc() != program.end {
         tally(report, &sides[0]);
         entry = qemu.entry()?;
-        steps += 1;
+        logged.after.push(entry.clone());
+        let steps = logged.after.len();
         for side in &mut sides {
             if let Err(different) = one_step(report, side, &entry) {
                 let name = side.simulator.name;
                 report.difference(format!("step {steps}, {name} {different}; again: {place}"));
-                return Ok(steps);
+                return Ok(logged);
             }
         }
     }
-    Ok(steps)
+    Ok(logged)
+}
+
+/// To each state that QEMU logged in one run, from the start or from behind the last trap: a run may do many steps in another way than one.
+/// An error says what differs first.
+fn by_runs(
+    report: &mut Report,
+    simulator: Simulator,
+    program: &Program,
+    logged: &Logged,
+) -> Result<(), String> {
+    let mut from = Side::new(simulator, program);
+    from.hart.x = logged.start;
+    let (mut steps, name) = (0, simulator.name);
+    for entry in &logged.after {
+        steps += 1;
+        let mut side = from.clone();
+        let at = |different: String| format!("{name}, a run of {steps} steps: {different}");
+        let cause = side.run(steps).map_err(at)?;
+        let different = differences(&side.hart, entry);
+        if !different.is_empty() {
+            return Err(at(different.join("; ")));
+        }
+        report.count(format!(
+            "{name}: runs of {:>4} steps and more",
+            steps / 512 * 512
+        ));
+        if cause.is_some() {
+            (from, steps) = (side, 0);
+        }
+    }
+    Ok(())
 }
 
 /// Takes `side` to where QEMU's next entry is and compares; an error says what differs.
@@ -208,6 +274,7 @@ fn differences(hart: &Hart, entry: &Entry) -> Vec<String> {
 mod tests {
     use super::*;
     use crate::qemu::tests::distinct;
+    use crate::side::word_at;
 
     #[test]
     fn each_word_is_compared() {
@@ -226,6 +293,59 @@ mod tests {
             let mut wrong = hart;
             wrong.rest[n] ^= 1;
             assert_eq!(differences(&wrong, &entry).len(), 1, "{}", REST[n]);
+        }
+    }
+
+    /// What QEMU should log of a program, by the second simulator.
+    fn stepped(program: &Program) -> Logged {
+        let mut side = Side::new(second(), program);
+        let mut after = Vec::new();
+        while side.pc() != program.end {
+            side.step().expect("no refusal");
+            let Hart { x, rest } = side.hart;
+            after.push(Entry { x, rest });
+        }
+        Logged {
+            start: Hart::fresh().x,
+            after,
+        }
+    }
+
+    /// A run that remembers each word by its pc and never looks again.
+    fn forgets_nothing(
+        hart: &mut Hart,
+        memory: &mut [u8],
+        map: &[u64],
+        steps: u64,
+    ) -> Result<Option<u64>, String> {
+        let mut known = std::collections::BTreeMap::new();
+        for _ in 0..steps {
+            let mut own = ::second::Hart::from_words(&hart.x, &hart.rest);
+            let word = word_at(hart, memory, map).expect("there is code everywhere");
+            let word = *known.entry(own.pc).or_insert(word);
+            let answer = ::second::step_word(&mut own, memory, map, word);
+            (hart.x, hart.rest) = own.to_words();
+            if answer.trapped {
+                return Ok(Some(answer.cause));
+            }
+        }
+        Ok(None)
+    }
+
+    #[test]
+    fn a_run_that_forgets_nothing_is_found() {
+        let report = &mut Report::new("test");
+        for (name, program) in patched() {
+            let logged = stepped(&program);
+            assert_eq!(
+                by_runs(report, second(), &program, &logged),
+                Ok(()),
+                "{name}"
+            );
+            let mut faulty = second();
+            faulty.run = forgets_nothing;
+            let found = by_runs(report, faulty, &program, &logged);
+            assert!(found.is_err(), "{name}");
         }
     }
 

@@ -34,6 +34,7 @@ COMPARISON, all of them one after the other if none is given:
   as        GNU as, reading that text, gives the word back
   asm       desk asm's library and GNU as give the same words for the same lines, and refuse the same
   qemu      random programs, step by step beside QEMU's riscv64 system emulator
+  patches   programs that patch themselves, in the same way, and by a run to each of its steps
   image     examples/torque, assembled again, gives the committed images
   hex       Intel HEX of GNU objcopy and srec_cat is loaded byte for byte, and they read what desk hex writes
   c         examples/c, by GCC and clang: the desk and QEMU give the same text and exit value
@@ -82,6 +83,7 @@ fn compare(options: &Options) -> Result<u64, String> {
             Comparison::As => assembler::compare(options.seed)?,
             Comparison::Asm => asm_lines::compare(options.seed)?,
             Comparison::Qemu => lockstep::compare(options.seed, options.programs.clone())?,
+            Comparison::Patches => lockstep::compare_patched()?,
             Comparison::Image => image::compare()?,
             Comparison::Hex => hex::compare(options.seed)?,
             Comparison::C => c::compare()?,

@@ -8,16 +8,18 @@ pub enum Comparison {
     As,
     Asm,
     Qemu,
+    Patches,
     Image,
     Hex,
     C,
 }
 
-const COMPARISONS: [(&str, Comparison); 7] = [
+const COMPARISONS: [(&str, Comparison); 8] = [
     ("objdump", Comparison::Objdump),
     ("as", Comparison::As),
     ("asm", Comparison::Asm),
     ("qemu", Comparison::Qemu),
+    ("patches", Comparison::Patches),
     ("image", Comparison::Image),
     ("hex", Comparison::Hex),
     ("c", Comparison::C),
@@ -60,7 +62,7 @@ pub fn read(given: &[String]) -> Result<Option<Options>, String> {
 fn comparison(name: &str) -> Result<Comparison, String> {
     let known = COMPARISONS.iter().find(|(known, _)| *known == name);
     known.map(|(_, comparison)| *comparison).ok_or_else(|| {
-        format!("{name}: no such comparison or option; there are objdump, as, asm, qemu, image, hex, c, --seed S, --programs N and --program N")
+        format!("{name}: no such comparison or option; there are objdump, as, asm, qemu, patches, image, hex, c, --seed S, --programs N and --program N")
     })
 }
 
@@ -95,6 +97,7 @@ mod tests {
                 Comparison::As,
                 Comparison::Asm,
                 Comparison::Qemu,
+                Comparison::Patches,
                 Comparison::Image,
                 Comparison::Hex,
                 Comparison::C

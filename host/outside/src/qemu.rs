@@ -197,7 +197,8 @@ fn values(line: &str, entry: &mut Entry, seen: &mut Vec<usize>) -> Option<bool> 
             *entry.x.get_mut(register)? = value;
             last = register == 31;
         } else if let Some(at) = REST.iter().position(|rest| *rest == name) {
-            entry.rest[at] = value;
+            // Of satp the hart keeps MODE alone: its pages are in a map.
+            entry.rest[at] = if at == SATP { value >> 60 << 60 } else { value };
             seen.push(at);
         }
     }
@@ -226,7 +227,9 @@ pub mod tests {
         );
         text.push_str(" mhartid  0000000000000000\n");
         for word in LOGGED.into_iter().filter(|&word| word != MODE) {
-            text.push_str(&format!(" {:8} {:016x}\n", REST[word], entry.rest[word]));
+            let root = if word == SATP { 0x8_000d } else { 0 };
+            let value = entry.rest[word] | root;
+            text.push_str(&format!(" {:8} {value:016x}\n", REST[word]));
         }
         for first in (0..32).step_by(4) {
             let row: Vec<_> = (first..first + 4)
@@ -247,6 +250,7 @@ pub mod tests {
             .iter()
             .for_each(|&word| entry.rest[word] = 0xfedc_0000 + word as u64);
         entry.rest[MODE] = 1;
+        entry.rest[SATP] = 8 << 60;
         entry
     }
 

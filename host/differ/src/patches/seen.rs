@@ -1,0 +1,456 @@
+//! Which patches came to be run, counted step by step, so that a test can demand that nothing is missing.
+//!
+//! A call's steps are taken again one by one with the second simulator. What counts is a word that was run, then patched into another one, and
+//! run again, all in one call: the run that remembers the word from before would carry out the wrong one. The counts decide about no difference.
+
+use super::make::AROUND;
+use super::store::{stored, Stored, ALL, DOUBLES};
+use crate::again::{place_at, take_again, Step};
+use crate::case::{Case, PAGE};
+use crate::mix::{list, FAMILIES};
+use crate::state::View;
+use sporhulma::word::*;
+use sporhulma::{Answer, Hart};
+use std::collections::{BTreeMap, BTreeSet};
+
+/// A run may take so many steps in another way first, and again after each change of its setting: a word that it ran then it may not remember.
+const DEEP: u64 = 512;
+/// And it may remember so many words.
+const LARGE: u64 = 1024;
+
+/// Where the word stood, seen from the instruction that patched it.
+const PLACES: [&str; 5] = ["itself", "next", "just run", "ahead", "behind"];
+const EDGES: [&str; 3] = ["last of a page", "first of a page", "next, over an edge"];
+/// By which address: the one that it was run from, another page of the same frame, or through MPRV.
+const NAMES: [&str; 3] = ["its own", "another page", "MPRV"];
+const RUNS: [&str; 2] = ["the page as before", "another page"];
+const MODES: [&str; 4] = ["U", "S", "S without Sv39", "M"];
+const SETTINGS: [&str; 8] = [
+    "mstatus", "sstatus", "satp", "menvcfg", "senvcfg", "mseccfg", "MRET", "SRET",
+];
+/// The families of words that are patched in.
+const FORMS: [usize; 19] = [
+    0, 1, 2, 3, 5, 6, 7, 8, 9, 10, 11, 12, 13, 14, 17, 18, 19, 22, 23,
+];
+
+/// So many of a hundred programs are to run a patched word, and so many one that was run late enough before.
+const LEAST: f64 = 85.0;
+const LEAST_DEEP: f64 = 40.0;
+
+type Sort = (&'static str, &'static str);
+
+/// A word that is to be a landing pad, as the hart expects one.
+const PAD: Sort = ("word", "landing pad");
+/// A store to data in the page of the code that stores.
+const BESIDE: Sort = ("data", "in the code's page");
+const LARGE_CODE: Sort = ("code", "over 1,024 words");
+
+/// Every sort that there must be, and those of which there must be some that were run late enough before.
+fn sorts() -> (Vec<Sort>, usize) {
+    let mut sorts = Vec::new();
+    sorts.extend(ALL.map(|by| ("by", by)));
+    sorts.extend(DOUBLES.map(|by| ("second word of", by)));
+    sorts.extend(PLACES.map(|place| ("word", place)));
+    sorts.extend(EDGES.map(|edge| ("word", edge)));
+    sorts.push(PAD);
+    sorts.extend(NAMES.map(|name| ("address", name)));
+    sorts.extend(RUNS.map(|run| ("run by", run)));
+    sorts.extend(MODES.map(|mode| ("run in", mode)));
+    sorts.push(BESIDE);
+    let deep = sorts.len();
+    sorts.extend(SETTINGS.map(|setting| ("after", setting)));
+    sorts.extend(FORMS.map(|family| ("form", FAMILIES[family])));
+    sorts.push(LARGE_CODE);
+    (sorts, deep)
+}
+
+/// A word as it was run: from where, after how many steps with the setting, and how often the setting had changed.
+#[derive(Clone, Copy)]
+struct Ran {
+    pc: u64,
+    word: u32,
+    steps: u64,
+    setting: u64,
+}
+
+/// What patched a word that had been run.
+#[derive(Clone, Copy)]
+struct Patched {
+    by: &'static str,
+    second: bool,
+    place: &'static str,
+    name: &'static str,
+    before: Ran,
+}
+
+/// What is known of four bytes of memory, in a call.
+#[derive(Clone, Copy, Default)]
+struct Word {
+    call: u64,
+    ran: Option<Ran>,
+    patched: Option<Patched>,
+}
+
+#[derive(Default)]
+pub struct Seen {
+    programs: u64,
+    calls: u64,
+    steps: u64,
+    /// The programs that run a patched word, and a deep one.
+    full: [u64; 2],
+    /// Of each sort how many, and how many deep ones.
+    counts: BTreeMap<Sort, [u64; 2]>,
+    /// The budgets that were spent, of whole runs and of first parts.
+    budgets: [BTreeSet<u64>; 2],
+    /// Of the program at hand whether it has run one, and a deep one.
+    has: [bool; 2],
+    words: Vec<Word>,
+    /// Of the call at hand: the words that it ran, the steps since the setting changed, how often it did, and by what.
+    distinct: u64,
+    since: u64,
+    changes: u64,
+    changed: BTreeSet<&'static str>,
+    memory: Vec<u8>,
+}
+
+impl Seen {
+    pub fn begin(&mut self) {
+        self.programs += 1;
+        self.has = [false; 2];
+    }
+
+    pub fn end(&mut self) {
+        for (full, has) in self.full.iter_mut().zip(self.has) {
+            *full += u64::from(has);
+        }
+    }
+
+    /// Counts a call that was carried out alike by both, and its parts' steps.
+    pub fn note(&mut self, case: &Case, [first, second]: [u64; 2], answer: &Answer) {
+        self.calls += 1;
+        self.steps += answer.count;
+        if answer.count == first + second {
+            self.budgets[0].insert(first + second);
+            self.budgets[1].insert(first);
+        }
+        (self.distinct, self.since, self.changes) = (0, 0, 0);
+        self.changed.clear();
+        self.words.resize(case.mem.len() / 4, Word::default());
+        let mut memory = std::mem::take(&mut self.memory);
+        take_again(case, answer.count, &mut memory, |step| {
+            self.note_step(&step, &case.map);
+        });
+        self.memory = memory;
+        if self.distinct > LARGE {
+            self.count(LARGE_CODE, false);
+        }
+    }
+
+    fn count(&mut self, sort: Sort, deep: bool) {
+        let counts = self.counts.entry(sort).or_default();
+        counts[0] += 1;
+        counts[1] += u64::from(deep);
+    }
+
+    fn note_step(&mut self, step: &Step, map: &[u64]) {
+        let fetched = !(step.answer.trapped && [1, 12].contains(&step.answer.cause));
+        let place = place_at(step.before, map);
+        if let (true, Some(word), Some(place)) = (fetched, step.word, place) {
+            self.note_run(place / 4, step.before, word);
+            let stored = stored(step.before, word, map).filter(|_| !step.answer.trapped);
+            if let Some(stored) = stored {
+                self.note_store(&stored, step.before, place);
+            }
+        }
+        self.since += 1;
+        if let Some(name) = change(step) {
+            self.changed.insert(name);
+            self.changes += 1;
+            self.since = 0;
+        }
+    }
+
+    /// What is known of a word, in this call.
+    fn word(&mut self, at: usize) -> &mut Word {
+        let call = self.calls;
+        let word = &mut self.words[at];
+        if word.call != call {
+            *word = Word {
+                call,
+                ..Word::default()
+            };
+        }
+        word
+    }
+
+    fn note_run(&mut self, at: usize, hart: &Hart, word: u32) {
+        let ran = Ran {
+            pc: hart.rest[PC],
+            word,
+            steps: self.since,
+            setting: self.changes,
+        };
+        let known = self.word(at);
+        let first = known.ran.replace(ran).is_none();
+        let patched = known.patched.take();
+        self.distinct += u64::from(first);
+        if let Some(patched) = patched.filter(|patched| patched.before.word != word) {
+            self.note_patched(&patched, &ran, hart);
+        }
+    }
+
+    /// Counts a word that was run, patched into another one, and is now run again.
+    fn note_patched(&mut self, patched: &Patched, now: &Ran, hart: &Hart) {
+        let before = &patched.before;
+        let deep = before.setting == now.setting && before.steps >= DEEP;
+        self.has[0] = true;
+        self.has[1] |= deep;
+        self.count(("by", patched.by), deep);
+        if patched.second {
+            self.count(("second word of", patched.by), deep);
+        }
+        self.count(("word", patched.place), deep);
+        if let Some(edge) = edge(patched.place, now.pc) {
+            self.count(("word", edge), deep);
+        }
+        if hart.rest[ELP] == 1 {
+            self.count(PAD, deep);
+        }
+        self.count(("address", patched.name), deep);
+        self.count(("run by", RUNS[usize::from(now.pc != before.pc)]), deep);
+        let view = View::of(&hart.rest);
+        let mode = match (view.mode, view.fetch_sv39) {
+            (0, _) => MODES[0],
+            (1, true) => MODES[1],
+            (1, false) => MODES[2],
+            _ => MODES[3],
+        };
+        self.count(("run in", mode), deep);
+        let family = second::family(now.word) as usize;
+        self.count(("form", FAMILIES[family]), deep);
+        for name in std::mem::take(&mut self.changed) {
+            self.count(("after", name), deep);
+        }
+    }
+
+    fn note_store(&mut self, stored: &Stored, hart: &Hart, code: usize) {
+        let view = View::of(&hart.rest);
+        let first = stored.place / 4;
+        let beside = stored.place / PAGE == code as u64 / PAGE;
+        if beside && self.word(first as usize).ran.is_none() {
+            let deep = self.since >= DEEP;
+            self.count(BESIDE, deep);
+        }
+        for at in first..=(stored.place + stored.bytes - 1) / 4 {
+            let address = (stored.address & !3) + 4 * (at - first);
+            let known = self.word(at as usize);
+            let Some(before) = known.ran else { continue };
+            let name = match (view.fetch_sv39, view.data_sv39) {
+                (true, _) if address != before.pc => NAMES[1],
+                (false, true) => NAMES[2],
+                _ => NAMES[0],
+            };
+            known.patched = Some(Patched {
+                by: stored.by,
+                second: at > first,
+                place: place(before.pc, hart.rest[PC]),
+                name,
+                before,
+            });
+        }
+    }
+}
+
+/// Where a word at `word` stands, seen from `pc`.
+fn place(word: u64, pc: u64) -> &'static str {
+    match word.wrapping_sub(pc) as i64 {
+        0 => PLACES[0],
+        4 => PLACES[1],
+        -4 => PLACES[2],
+        5.. => PLACES[3],
+        _ => PLACES[4],
+    }
+}
+
+fn edge(place: &str, pc: u64) -> Option<&'static str> {
+    match pc % PAGE {
+        0 if place == PLACES[1] => Some(EDGES[2]),
+        0 => Some(EDGES[1]),
+        at if at == PAGE - 4 => Some(EDGES[0]),
+        _ => None,
+    }
+}
+
+/// By what a step has changed a word on which the setting depends.
+fn change(step: &Step) -> Option<&'static str> {
+    const WORDS: [usize; 6] = [MODE, SATP, MSTATUS, MENVCFG, SENVCFG, MSECCFG];
+    let same = |word: &usize| step.before.rest[*word] == step.after.rest[*word];
+    if step.answer.trapped || WORDS.iter().all(same) {
+        return None;
+    }
+    let word = step.word?;
+    match (second::family(word), word >> 20) {
+        (16, _) => Some("MRET"),
+        (15, _) => Some("SRET"),
+        (_, 0x300) => Some("mstatus"),
+        (_, 0x100) => Some("sstatus"),
+        (_, 0x180) => Some("satp"),
+        (_, 0x30A) => Some("menvcfg"),
+        (_, 0x10A) => Some("senvcfg"),
+        _ => Some("mseccfg"),
+    }
+}
+
+impl Seen {
+    fn share(&self, part: u64) -> f64 {
+        100.0 * part as f64 / self.programs.max(1) as f64
+    }
+
+    /// What a reader of the counts would miss, a sentence each.
+    pub fn complaints(&self) -> Vec<String> {
+        let (sorts, deep) = sorts();
+        let mut complaints = Vec::new();
+        for (at, sort) in sorts.iter().enumerate() {
+            let [all, late] = self.counts.get(sort).copied().unwrap_or_default();
+            let (kind, name) = sort;
+            if all == 0 {
+                complaints.push(format!("patches, {kind} {name}: never seen"));
+            } else if late == 0 && at < deep {
+                complaints.push(format!(
+                    "patches, {kind} {name}: never seen of a word that was run after {DEEP} steps"
+                ));
+            }
+        }
+        for (budgets, of) in self.budgets.iter().zip(["runs", "first parts"]) {
+            let missing = AROUND.iter().filter(|steps| !budgets.contains(steps));
+            complaints.extend(missing.map(|steps| format!("patches: no {of} of {steps} steps")));
+        }
+        let least = [(LEAST, "run"), (LEAST_DEEP, "run late")];
+        for ((least, what), full) in least.into_iter().zip(self.full) {
+            let share = self.share(full);
+            if share < least {
+                complaints.push(format!(
+                    "only {share:.1} % of the programs {what} a patched word, and {least} % are to"
+                ));
+            }
+        }
+        complaints
+    }
+
+    pub fn text(&self) -> String {
+        let [full, deep] = self.full.map(|part| self.share(part));
+        let mut text = format!(
+            "patches    {} programs in {} calls with {} steps; {full:.1} % run a patched word,\n\
+             \x20          {deep:.1} % one that they ran before it after {DEEP} steps and more (each sort: all/so late)\n",
+            self.programs, self.calls, self.steps
+        );
+        let (sorts, _) = sorts();
+        for group in sorts.chunk_by(|one, other| one.0 == other.0) {
+            let counts = group.iter().map(|sort| {
+                let [all, deep] = self.counts.get(sort).copied().unwrap_or_default();
+                format!("{}: {all}/{deep}", sort.1)
+            });
+            list(&mut text, &format!("  {}", group[0].0), counts.collect(), 5);
+        }
+        text
+    }
+}
+
+#[cfg(test)]
+mod tests {
+    use super::*;
+    use crate::case::{Call, BASE};
+    use crate::simulator::{Second, Simulator};
+    use formats::*;
+
+    const NOP: u32 = 0x13;
+
+    /// What is counted of a call in M. x1 is memory's start, x2 what is patched in.
+    fn seen(words: &[u32], patched: u64, steps: u64) -> Seen {
+        let mut case = Case::empty();
+        case.mem = words.iter().flat_map(|word| word.to_le_bytes()).collect();
+        case.mem.resize(PAGE as usize, 0);
+        (case.hart.x[1], case.hart.x[2]) = (BASE, patched);
+        case.call = Call::Run(steps);
+        let mut end = case.clone();
+        let answer = Second.call(case.call, &mut end.hart, &mut end.mem, &case.map);
+        let mut seen = Seen::default();
+        seen.begin();
+        seen.note(&case, [1, steps - 1], &answer);
+        seen.end();
+        seen
+    }
+
+    fn sorts_of(seen: &Seen, kind: &str) -> Vec<(&'static str, [u64; 2])> {
+        let counts = seen.counts.iter().filter(|(sort, _)| sort.0 == kind);
+        counts.map(|(sort, counts)| (sort.1, *counts)).collect()
+    }
+
+    /// A word that is run, patched by the next one, and run again, in a loop of three.
+    #[test]
+    fn a_word_counts_when_it_is_run_before_the_patch_and_behind_it() {
+        let back = j(0, -8_i64 as u64);
+        let program = [NOP, s(STORE, 2, 1, 2, 0), back];
+        let other = i(OP_IMM, 0, 3, 3, 1).into();
+        let all = seen(&program, other, 8);
+        assert_eq!(sorts_of(&all, "by"), [("SW", [1, 0])]);
+        assert_eq!(
+            sorts_of(&all, "word"),
+            [("first of a page", [1, 0]), ("just run", [1, 0])]
+        );
+        assert_eq!(sorts_of(&all, "address"), [("its own", [1, 0])]);
+        assert_eq!(sorts_of(&all, "run in"), [("M", [1, 0])]);
+        assert_eq!(sorts_of(&all, "form"), [("OP-IMM", [1, 0])]);
+        assert_eq!((all.full, all.steps), ([1, 0], 8));
+        assert!(all.budgets[0].contains(&8) && all.budgets[1].contains(&1));
+        // The same word again; not run again; not run before.
+        assert!(seen(&program, NOP.into(), 8).counts.is_empty());
+        assert!(seen(&program, other, 3).counts.is_empty());
+        let ahead = [s(STORE, 2, 1, 2, 4), NOP, NOP];
+        assert!(seen(&ahead, other, 3).full == [0, 0]);
+    }
+
+    /// The patch comes after so many rounds of two, and stores two words.
+    #[test]
+    fn a_word_that_was_run_late_counts_as_deep() {
+        let rounds = |count| {
+            let program = [
+                i(OP_IMM, 0, 4, 0, count),
+                NOP,
+                i(OP_IMM, 0, 4, 4, u64::MAX),
+                b(1, 4, 0, -8_i64 as u64),
+                s(STORE, 3, 1, 2, 0),
+                j(0, -16_i64 as u64),
+            ];
+            let patched = u64::from(i(OP_IMM, 0, 3, 3, 1)) << 32 | u64::from(program[0]);
+            sorts_of(&seen(&program, patched, 3 * count + 4), "second word of")
+        };
+        assert_eq!(rounds(100), [("SD", [1, 0])]);
+        assert_eq!(rounds(200), [("SD", [1, 1])]);
+    }
+
+    #[test]
+    fn each_sort_each_budget_and_the_shares_are_asked_for() {
+        let mut all = Seen::default();
+        let (sorts, deep) = sorts();
+        all.counts.extend(sorts.iter().map(|sort| (*sort, [1, 1])));
+        all.budgets = [AROUND.into(), AROUND.into()];
+        (all.programs, all.full) = (100, [85, 40]);
+        assert_eq!(all.complaints(), Vec::<String>::new());
+        for (at, sort) in sorts.iter().enumerate() {
+            all.counts.insert(*sort, [1, 0]);
+            assert_eq!(all.complaints().len(), usize::from(at < deep));
+            all.counts.remove(sort);
+            assert_eq!(all.complaints().len(), 1);
+            all.counts.insert(*sort, [1, 1]);
+        }
+        for of in 0..2 {
+            all.budgets[of].remove(&64);
+            assert_eq!(all.complaints().len(), 1);
+            all.budgets[of].insert(64);
+            all.full[of] -= 1;
+            assert_eq!(all.complaints().len(), 1);
+            all.full[of] += 1;
+        }
+    }
+}

@@ -1,0 +1,145 @@
+//! Changes of the setting in the middle of a run: by CSRRW, and by MRET and SRET, which may stay in their mode or go down.
+
+use super::plan::Kind;
+use super::writer::*;
+use crate::program::TABLE;
+use crate::state::{LPE, MPRV, MXR, SSE, SUM, SV39};
+use formats::*;
+
+const SSTATUS: u64 = 0x100;
+const SENVCFG: u64 = 0x10A;
+const SEPC: u64 = 0x141;
+const SATP: u64 = 0x180;
+const MSTATUS: u64 = 0x300;
+const MENVCFG: u64 = 0x30A;
+const MEPC: u64 = 0x341;
+const MSECCFG: u64 = 0x747;
+
+/// One bit of PMM: 0 becomes 2, and 2 becomes 0.
+const MASKS: u64 = 2 << 32;
+
+/// What M turns, and what S does.
+const MACHINE: [(u64, u64); 11] = [
+    (MSTATUS, MPRV),
+    (MSTATUS, MXR),
+    (MSTATUS, SUM),
+    (MSTATUS, SUM | MXR),
+    (MENVCFG, LPE),
+    (MENVCFG, MASKS | SSE),
+    (SENVCFG, SSE),
+    (SENVCFG, LPE | MASKS),
+    (SATP, SV39),
+    (SATP, SV39),
+    (MSECCFG, MASKS),
+];
+const SUPERVISOR: [(u64, u64); 4] = [
+    (SSTATUS, MXR),
+    (SSTATUS, SUM),
+    (SENVCFG, SSE | LPE),
+    (SENVCFG, MASKS),
+];
+
+impl Writer<'_> {
+    /// A change of the setting, in M or S.
+    pub fn setting(&mut self) {
+        match self.mode {
+            1 if self.plan.kind == Kind::Turning && self.random.chance(60) => self.turn_satp(),
+            _ if self.random.chance(25) => self.come_back(),
+            mode => {
+                let all: &[(u64, u64)] = if mode == 3 { &MACHINE } else { &SUPERVISOR };
+                let (csr, bits) = self.random.pick(all);
+                self.turn_and_back(csr, bits);
+            }
+        }
+    }
+
+    /// Turns Sv39 on or off, and perhaps another code on.
+    pub fn turn_satp(&mut self) {
+        self.turns += 1;
+        self.turn(SATP, SV39);
+    }
+
+    fn turn(&mut self, csr: u64, bits: u64) {
+        let constant = self.constant(TURNED, bits);
+        self.words.push(constant);
+        self.write(csr);
+    }
+
+    fn write(&mut self, csr: u64) {
+        self.words.extend([
+            i(SYSTEM, 2, VALUE, 0, csr),
+            r(OP, 4, 0, VALUE, VALUE, TURNED),
+            i(SYSTEM, 1, 0, VALUE, csr),
+        ]);
+    }
+
+    /// Turns them and turns them back. Between the two memory may be out of reach, or another: sometimes an access made before is made again.
+    fn turn_and_back(&mut self, csr: u64, bits: u64) {
+        let glance = self.random.chance(50).then(|| self.glance());
+        self.words.extend(glance);
+        self.turn(csr, bits);
+        let before = std::mem::replace(&mut self.plain, true);
+        let words = 1 + self.random.below(6);
+        self.filler(words);
+        self.words.extend(glance);
+        self.plain = before;
+        self.write(csr);
+    }
+
+    /// A load or a store of a page of data, or a load of the code by another name, where it has one all along.
+    fn glance(&mut self) -> u32 {
+        let named = !matches!(self.plan.kind, Kind::Physical | Kind::Turning);
+        let at: &[u32] = if named {
+            &[TABLE, CONSTANTS, OPEN, STACK]
+        } else {
+            &[TABLE, CONSTANTS]
+        };
+        let load = i(LOAD, 3, 15, self.random.pick(at), 0);
+        let store = s(STORE, 3, TABLE, 0, 8);
+        self.random.pick(&[load, load, store])
+    }
+
+    /// A return that stays in the mode: MRET with MPP M, or SRET with SPP S. It leaves U there, and what MPRV wants is put back.
+    fn come_back(&mut self) {
+        let (epc, status, field, back) = match self.mode {
+            3 => (MEPC, MSTATUS, 0x1800, MRET),
+            _ => (SEPC, SSTATUS, 0x100, SRET),
+        };
+        let moved = self.plan.kind == Kind::Moved && self.mode == 3;
+        let below = if moved { self.plan.below << 11 } else { 0 };
+        let constants = [self.constant(TURNED, field), self.constant(BITS, below)];
+        self.words.extend(constants);
+        self.words.extend([
+            u(AUIPC, VALUE, 0),
+            i(OP_IMM, 0, VALUE, VALUE, 20),
+            i(SYSTEM, 1, 0, VALUE, epc),
+            i(SYSTEM, 2, 0, TURNED, status),
+            back,
+            i(SYSTEM, 2, 0, BITS, status),
+        ]);
+    }
+
+    /// Goes down to where the plan says, by the name that the code has there.
+    pub fn descend(&mut self) {
+        const WORDS: u64 = 5;
+        let target = self.here() + 4 * WORDS;
+        let by_mret = self.mode == 3;
+        let (epc, status, back, base) = match by_mret {
+            true => (MEPC, MSTATUS, MRET, self.code),
+            false => (SEPC, SSTATUS, SRET, self.again),
+        };
+        // MPP is what it should be, SPP may not.
+        let field = if by_mret { 0 } else { 0x100 };
+        let address = self.constant(VALUE, base.wrapping_add(target));
+        let field = self.constant(TURNED, field);
+        self.words.extend([
+            address,
+            field,
+            i(SYSTEM, 1, 0, VALUE, epc),
+            i(SYSTEM, 3, 0, TURNED, status),
+            back,
+        ]);
+        self.mode = self.plan.below;
+        self.alone = !by_mret;
+    }
+}
