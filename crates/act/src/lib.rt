@@ -1,0 +1,379 @@
+// What a form does (crate `form`), in place on a hart's registers and words and on memory: all that its effect says, or nothing. What traps is left
+// undone, and so is what a form does not name: the slow path does it.
+//
+// One match for all: a second one would be a second jump for each instruction (docs/SPEED.md).
+use address::control::Control;
+use effect::compute::one;
+use effect::jump;
+use form::Op;
+use isa::Kind;
+use isa::Width;
+use pages::COUNT as PAGES;
+use product::count;
+use product::divide;
+use product::extreme;
+use product::multiply;
+use word::logic;
+use word::order;
+use word::shift;
+use word::sum;
+use words::COUNT;
+use words::SSP;
+ghost use mathlib.Core.Bool.{Bool, true, false};
+ghost use mathlib.Core.List.{List};
+ghost use mathlib.Core.Path.{_≡_};
+ghost use Prim.Native.Nat.{ℕ, _+_, _^_, _<_, _≤_};
+ghost use lib.ListN.{length};
+ghost use Rattle.isa.specs.declared.Access.the-variants as access;
+ghost use Rattle.isa.specs.declared.Kind.the-variants as kind;
+ghost use Rattle.isa.specs.declared.Width.the-variants.{Double};
+ghost use Rattle.address.specs.Stack.{pushOf};
+ghost use Rattle.place.specs.Place.{placeOf};
+ghost use Rattle.effect.specs.Jump.{jalOf, branchOf};
+ghost use Rattle.effect.specs.Register.{putOf};
+ghost use Rattle.transfer.specs.Access.{atOf};
+ghost use Rattle.meaning.specs.Instruction.{nextOf};
+ghost use Rattle.words.specs.Words.{_of_, SSP};
+ghost use Rattle.moves.specs.Moves.{Does};
+ghost use Rattle.pages.specs.Pages.{Remembers};
+ghost use Rattle.form.specs.Form.{doesOf};
+ghost use Rattle.act.specs.Act.{Touched};
+
+// Whether a form was carried out, and then pc after it; and where it stored, if it did: the index of the first byte, and 1 more.
+pub struct Acted {
+    pub done: bool,
+    pub pc: u64,
+    pub stored: usize,
+}
+
+fn undone(pc: u64) -> Acted
+    ensures { λ r. ⌜ r ≡ record { done = false; pc = pc; stored = 0 } ⌝ }
+{
+    Acted {
+        done: false,
+        pc,
+        stored: 0,
+    }
+}
+
+// Done: pc goes on at `next`, and memory stays.
+fn went(next: u64) -> Acted
+    ensures { λ r. ⌜ r ≡ record { done = true; pc = next; stored = 0 } ⌝ }
+{
+    Acted {
+        done: true,
+        pc: next,
+        stored: 0,
+    }
+}
+
+// Done: rd takes v, and pc goes on at `next`.
+fn wrote(x: &mut [u64; 32], rd: usize, v: u64, next: u64) -> Acted
+    requires { ⌜ rd < 32 ⌝ }
+    ensures { λ r. ⌜ (r ≡ record { done = true; pc = next; stored = 0 }) × (now (x .exit) ≡ putOf rd v (now (x .entry))) ⌝ }
+{
+    x[rd] = v;
+    x[0] = 0;
+    went(next)
+}
+
+// To a target, with the link in rd.
+fn jumped(x: &mut [u64; 32], rd: usize, link: u64, target: u64, pc: u64) -> Acted
+    requires { ⌜ rd < 32 ⌝ }
+    ensures { λ r. ⌜ (r .stored ≡ 0)
+        × ((w m : List ℕ) → Does (r .done) (jalOf rd link target) (now (x .entry)) w m (r .pc) (now (x .exit)) w m) ⌝ }
+{
+    if target % 4 == 0 {
+        return wrote(x, rd, link, target);
+    }
+    undone(pc)
+}
+
+// A branch that is not taken writes 0 to register 0, as its effect says: so it does something else than one that is, and the compiler does not make
+// one choice of an address of the two (docs/SPEED.md).
+fn branch(taken: bool, x: &mut [u64; 32], target: u64, pc: u64) -> Acted
+    ensures { λ r. ⌜ (r .stored ≡ 0)
+        × ((w m : List ℕ) → Does (r .done) (branchOf taken (nextOf pc) target) (now (x .entry)) w m (r .pc) (now (x .exit)) w m) ⌝ }
+{
+    if taken {
+        return jumped(x, 0, 0, target, pc);
+    }
+    wrote(x, 0, 0, sum::sum(pc, 4))
+}
+
+fn load(
+    n: Width,
+    sign: bool,
+    rd: usize,
+    a: u64,
+    x: &mut [u64; 32],
+    pc: u64,
+    c: Control,
+    mem: &[u8],
+    map: &[u64],
+    pages: &mut [u64; PAGES],
+) -> Acted
+    requires { ⌜ (length (now mem) ≤ 2 ^ 20) × (rd < 32) × Remembers (now pages) c (now map) (length (now mem)) ⌝ }
+    ensures does { λ r. ⌜ (r .stored ≡ 0) × ((w : List ℕ) → Does (r .done) (atOf (access.Load n sign) (placeOf c kind.Load n a (now (map .entry))
+        (length (now (mem .entry)))) rd 0 0 0 (nextOf pc) (now (mem .entry))) (now (x .entry)) w (now (mem .entry)) (r .pc) (now (x .exit)) w
+        (now (mem .entry))) ⌝ }
+    ensures pages { λ _. ⌜ Remembers (now (pages .exit)) c (now (map .entry)) (length (now (mem .entry))) ⌝ }
+{
+    let q = pages::seek(pages, 0, Kind::Load, n, a, c, mem, map);
+    if q.found {
+        let v = memory::extend(n, sign, memory::load(mem, q.at, n));
+        return wrote(x, rd, v, sum::sum(pc, 4));
+    }
+    undone(pc)
+}
+
+fn store(
+    n: Width,
+    a: u64,
+    v: u64,
+    pc: u64,
+    c: Control,
+    mem: &mut [u8],
+    map: &[u64],
+    pages: &mut [u64; PAGES],
+) -> Acted
+    requires { ⌜ (length (now mem) ≤ 2 ^ 20) × Remembers (now pages) c (now map) (length (now mem)) ⌝ }
+    ensures does { λ r. ⌜ ((x w : List ℕ) → Does (r .done) (atOf (access.Store n)
+        (placeOf c kind.Store n a (now (map .entry)) (length (now (mem .entry)))) 0 0 v 0 (nextOf pc) (now (mem .entry))) x w (now (mem .entry))
+        (r .pc) x w (now (mem .exit))) ⌝ }
+    ensures stored { λ r. ⌜ Touched (r .stored) (now (mem .entry)) (now (mem .exit)) ⌝ }
+    ensures pages { λ _. ⌜ Remembers (now (pages .exit)) c (now (map .entry)) (length (now (mem .entry))) ⌝ }
+{
+    let q = pages::seek(pages, 1, Kind::Store, n, a, c, mem, map);
+    if q.found {
+        let at = q.at;
+        memory::store(mem, at, n, v);
+        return Acted {
+            done: true,
+            pc: sum::sum(pc, 4),
+            stored: at + 1,
+        };
+    }
+    undone(pc)
+}
+
+fn push(
+    v: u64,
+    w: &mut [u64; COUNT],
+    pc: u64,
+    c: Control,
+    mem: &mut [u8],
+    map: &[u64],
+    pages: &mut [u64; PAGES],
+) -> Acted
+    requires { ⌜ (length (now mem) ≤ 2 ^ 20) × Remembers (now pages) c (now map) (length (now mem)) ⌝ }
+    ensures does { λ r. ⌜ ((x : List ℕ) → Does (r .done) (atOf access.Push (placeOf c kind.Push Double (pushOf (SSP of now (w .entry)))
+        (now (map .entry)) (length (now (mem .entry)))) 0 0 v (SSP of now (w .entry)) (nextOf pc) (now (mem .entry))) x (now (w .entry))
+        (now (mem .entry)) (r .pc) x (now (w .exit)) (now (mem .exit))) ⌝ }
+    ensures stored { λ r. ⌜ Touched (r .stored) (now (mem .entry)) (now (mem .exit)) ⌝ }
+    ensures pages { λ _. ⌜ Remembers (now (pages .exit)) c (now (map .entry)) (length (now (mem .entry))) ⌝ }
+{
+    let top = sum::difference(w[SSP], 8);
+    let q = pages::seek(pages, 2, Kind::Push, Width::Double, top, c, mem, map);
+    if q.found {
+        let at = q.at;
+        memory::store(mem, at, Width::Double, v);
+        w[SSP] = top;
+        return Acted {
+            done: true,
+            pc: sum::sum(pc, 4),
+            stored: at + 1,
+        };
+    }
+    undone(pc)
+}
+
+fn pop(
+    v: u64,
+    w: &mut [u64; COUNT],
+    pc: u64,
+    c: Control,
+    mem: &[u8],
+    map: &[u64],
+    pages: &mut [u64; PAGES],
+) -> Acted
+    requires { ⌜ (length (now mem) ≤ 2 ^ 20) × Remembers (now pages) c (now map) (length (now mem)) ⌝ }
+    ensures does { λ r. ⌜ (r .stored ≡ 0) × ((x : List ℕ) → Does (r .done) (atOf access.Pop (placeOf c kind.Pop Double (SSP of now (w .entry))
+        (now (map .entry)) (length (now (mem .entry)))) 0 v 0 (SSP of now (w .entry)) (nextOf pc) (now (mem .entry))) x (now (w .entry))
+        (now (mem .entry)) (r .pc) x (now (w .exit)) (now (mem .entry))) ⌝ }
+    ensures pages { λ _. ⌜ Remembers (now (pages .exit)) c (now (map .entry)) (length (now (mem .entry))) ⌝ }
+{
+    let top = w[SSP];
+    let q = pages::seek(pages, 3, Kind::Pop, Width::Double, top, c, mem, map);
+    if q.found {
+        if memory::load(mem, q.at, Width::Double) == v {
+            w[SSP] = sum::sum(top, 8);
+            return went(sum::sum(pc, 4));
+        }
+    }
+    undone(pc)
+}
+
+// a and r are the values of the form's two registers.
+pub fn act(
+    op: Op,
+    rd: usize,
+    a: u64,
+    r: u64,
+    v: u64,
+    x: &mut [u64; 32],
+    w: &mut [u64; COUNT],
+    pc: u64,
+    c: Control,
+    mem: &mut [u8],
+    map: &[u64],
+    pages: &mut [u64; PAGES],
+) -> Acted
+    requires { ⌜ (length (now mem) ≤ 2 ^ 20) × (rd < 32) × Remembers (now pages) c (now map) (length (now mem)) ⌝ }
+    ensures does { λ t. ⌜ Does (t .done) (doesOf op rd a r v pc (SSP of now (w .entry)) c (now (mem .entry)) (now (map .entry))) (now (x .entry))
+        (now (w .entry)) (now (mem .entry)) (t .pc) (now (x .exit)) (now (w .exit)) (now (mem .exit)) ⌝ }
+    ensures stored { λ t. ⌜ Touched (t .stored) (now (mem .entry)) (now (mem .exit)) ⌝ }
+    ensures pages { λ _. ⌜ Remembers (now (pages .exit)) c (now (map .entry)) (length (now (mem .entry))) ⌝ }
+{
+    let b = sum::sum(r, v);
+    match op {
+        Op::Add => wrote(x, rd, sum::sum(a, b), sum::sum(pc, 4)),
+        Op::Sub => wrote(x, rd, sum::difference(a, b), sum::sum(pc, 4)),
+        Op::Sll => wrote(x, rd, shift::left(a, b), sum::sum(pc, 4)),
+        Op::Slt => wrote(x, rd, one(order::signed_less(a, b)), sum::sum(pc, 4)),
+        Op::Sltu => wrote(x, rd, one(order::unsigned_less(a, b)), sum::sum(pc, 4)),
+        Op::Xor => wrote(x, rd, logic::xor(a, b), sum::sum(pc, 4)),
+        Op::Srl => wrote(x, rd, shift::right(a, b), sum::sum(pc, 4)),
+        Op::Sra => wrote(x, rd, shift::arithmetic(a, b), sum::sum(pc, 4)),
+        Op::Or => wrote(x, rd, logic::or(a, b), sum::sum(pc, 4)),
+        Op::And => wrote(x, rd, logic::and(a, b), sum::sum(pc, 4)),
+        Op::Mul => wrote(x, rd, multiply::product(a, b), sum::sum(pc, 4)),
+        Op::Mulh => wrote(x, rd, multiply::upper(true, true, a, b), sum::sum(pc, 4)),
+        Op::Mulhsu => wrote(x, rd, multiply::upper(true, false, a, b), sum::sum(pc, 4)),
+        Op::Mulhu => wrote(x, rd, multiply::upper(false, false, a, b), sum::sum(pc, 4)),
+        Op::Div => wrote(x, rd, divide::quotient(true, a, b), sum::sum(pc, 4)),
+        Op::Divu => wrote(x, rd, divide::quotient(false, a, b), sum::sum(pc, 4)),
+        Op::Rem => wrote(x, rd, divide::remainder(true, a, b), sum::sum(pc, 4)),
+        Op::Remu => wrote(x, rd, divide::remainder(false, a, b), sum::sum(pc, 4)),
+        Op::Min => wrote(x, rd, extreme::smaller(true, a, b), sum::sum(pc, 4)),
+        Op::Minu => wrote(x, rd, extreme::smaller(false, a, b), sum::sum(pc, 4)),
+        Op::Max => wrote(x, rd, extreme::larger(true, a, b), sum::sum(pc, 4)),
+        Op::Maxu => wrote(x, rd, extreme::larger(false, a, b), sum::sum(pc, 4)),
+        Op::Clz => wrote(x, rd, count::leading(a), sum::sum(pc, 4)),
+        Op::Ctz => wrote(x, rd, count::trailing(a), sum::sum(pc, 4)),
+        Op::Cpop => wrote(x, rd, count::set(a), sum::sum(pc, 4)),
+        Op::Addw => wrote(x, rd, sum::sum_word(a, b), sum::sum(pc, 4)),
+        Op::Subw => wrote(x, rd, sum::difference_word(a, b), sum::sum(pc, 4)),
+        Op::Sllw => wrote(x, rd, shift::left_word(a, b), sum::sum(pc, 4)),
+        Op::Srlw => wrote(x, rd, shift::right_word(a, b), sum::sum(pc, 4)),
+        Op::Sraw => wrote(x, rd, shift::arithmetic_word(a, b), sum::sum(pc, 4)),
+        Op::Mulw => wrote(x, rd, multiply::product_word(a, b), sum::sum(pc, 4)),
+        Op::Divw => wrote(x, rd, divide::quotient_word(true, a, b), sum::sum(pc, 4)),
+        Op::Divuw => wrote(x, rd, divide::quotient_word(false, a, b), sum::sum(pc, 4)),
+        Op::Remw => wrote(x, rd, divide::remainder_word(true, a, b), sum::sum(pc, 4)),
+        Op::Remuw => wrote(x, rd, divide::remainder_word(false, a, b), sum::sum(pc, 4)),
+        Op::Clzw => wrote(x, rd, count::leading_word(a), sum::sum(pc, 4)),
+        Op::Ctzw => wrote(x, rd, count::trailing_word(a), sum::sum(pc, 4)),
+        Op::Cpopw => wrote(x, rd, count::set_word(a), sum::sum(pc, 4)),
+        Op::Jal => jumped(x, rd, sum::sum(pc, 4), v, pc),
+        Op::Jalr => jumped(x, rd, sum::sum(pc, 4), jump::even(sum::sum(a, v)), pc),
+        Op::Beq => branch(a == r, x, v, pc),
+        Op::Bne => branch(!(a == r), x, v, pc),
+        Op::Blt => branch(order::signed_less(a, r), x, v, pc),
+        Op::Bge => branch(!order::signed_less(a, r), x, v, pc),
+        Op::Bltu => branch(order::unsigned_less(a, r), x, v, pc),
+        Op::Bgeu => branch(!order::unsigned_less(a, r), x, v, pc),
+        Op::Lb => load(
+            Width::Byte,
+            true,
+            rd,
+            sum::sum(a, v),
+            x,
+            pc,
+            c,
+            mem,
+            map,
+            pages,
+        ),
+        Op::Lh => load(
+            Width::Half,
+            true,
+            rd,
+            sum::sum(a, v),
+            x,
+            pc,
+            c,
+            mem,
+            map,
+            pages,
+        ),
+        Op::Lw => load(
+            Width::Word,
+            true,
+            rd,
+            sum::sum(a, v),
+            x,
+            pc,
+            c,
+            mem,
+            map,
+            pages,
+        ),
+        Op::Ld => load(
+            Width::Double,
+            true,
+            rd,
+            sum::sum(a, v),
+            x,
+            pc,
+            c,
+            mem,
+            map,
+            pages,
+        ),
+        Op::Lbu => load(
+            Width::Byte,
+            false,
+            rd,
+            sum::sum(a, v),
+            x,
+            pc,
+            c,
+            mem,
+            map,
+            pages,
+        ),
+        Op::Lhu => load(
+            Width::Half,
+            false,
+            rd,
+            sum::sum(a, v),
+            x,
+            pc,
+            c,
+            mem,
+            map,
+            pages,
+        ),
+        Op::Lwu => load(
+            Width::Word,
+            false,
+            rd,
+            sum::sum(a, v),
+            x,
+            pc,
+            c,
+            mem,
+            map,
+            pages,
+        ),
+        Op::Sb => store(Width::Byte, sum::sum(a, v), r, pc, c, mem, map, pages),
+        Op::Sh => store(Width::Half, sum::sum(a, v), r, pc, c, mem, map, pages),
+        Op::Sw => store(Width::Word, sum::sum(a, v), r, pc, c, mem, map, pages),
+        Op::Sd => store(Width::Double, sum::sum(a, v), r, pc, c, mem, map, pages),
+        Op::Push => push(r, w, pc, c, mem, map, pages),
+        Op::Pop => pop(a, w, pc, c, mem, map, pages),
+        Op::ReadSsp => wrote(x, rd, w[SSP], sum::sum(pc, 4)),
+        Op::Left => undone(pc),
+    }
+}
