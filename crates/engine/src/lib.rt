@@ -1,4 +1,3 @@
-// The run's engine, on a hart's registers and words, which are lent and changed in place: the loop, and the quick way through it. A step the whole
-// way is `hart::step::one`.
-mod glide;
+// The run's engine, on a hart's registers and words, which are lent and changed in place: its loop. The quick way through it is crate `glide`, the fast path
+// crate `fast`, and a step the slow way `hart::step::one`.
 pub mod run;

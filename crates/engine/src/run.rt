@@ -1,6 +1,5 @@
-// A run: steps up to and including the first that traps, or until the budget is spent. A turn of the loop lets the quick way take as many steps as it
-// does, and then takes one the whole way, by its effect.
-use super::glide;
+// A run: steps up to and including the first that traps, or until the budget is spent. A turn of the loop lets the quick way and the fast path take as
+// many steps as they do, and then takes one the slow way, by its effect.
 use address::control;
 use hart::Hart;
 use hart::step;
@@ -65,7 +64,8 @@ pub fn run(
     let mut left = budget;
     let mut k = known(w);
     while 0 < left {
-        left = glide::glide(x, w, from, k, mem, map, left);
+        let g = fast::go(x, w, from, k, mem, map, left);
+        left = g.left;
         if left == 0 {
             return report(budget, false, 0);
         }
@@ -79,6 +79,7 @@ pub fn run(
             k = known(w);
             continue;
         }
+        left = fast::again(x, w, k.setting, mem, map, left, g.far).left;
     }
     report(budget, false, 0)
 }

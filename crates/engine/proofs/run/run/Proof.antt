@@ -26,13 +26,13 @@ abbrev μ-loop : tie.MeasureT-loop
 loop-holds : tie.Need-loop-holds Inv-loop μ-loop
 loop-holds c = (refl, c .known .ensures, start _ _ _ _ _)
 
-glide-requires : tie.Need-glide-requires Inv-loop μ-loop
-glide-requires c κs =
+go-requires : tie.Need-go-requires Inv-loop μ-loop
+go-requires c κs =
     let l = c .before .before .before .before in
     (rw (l .loop .inv .0) (l .before .before .before .before .before .pre), l .loop .inv .1)
 
--- after the quick way: memory's length, and what is left of the whole
-module _ (g : tie.After-glide Inv-loop μ-loop) where
+-- after the quick way and the fast path: memory's length, and what is left of the whole
+module _ (g : tie.After-go Inv-loop μ-loop) where
   abbrev loop : tie.At-loop Inv-loop μ-loop
   loop = g .before .before .before .before .before
 
@@ -45,33 +45,33 @@ module _ (g : tie.After-glide Inv-loop μ-loop) where
       runFrom (a .source) (a .budget) (hart (a .x .now) (a .w .now)) (a .mem .now) (a .map .now)
 
   abbrev glided : Hart
-  glided = hart (g .glide .last .0) (g .glide .last .1 .0)
+  glided = hart (g .go .last .0) (g .go .last .1 .0)
 
-  len : length (g .glide .last .1 .1 .1 .1 .0) ≡ length (first .args .mem .now)
-  len = g .glide .kept .1 .1 .1 .1 .0 ∙ loop .loop .inv .0
+  len : length (g .go .last .1 .1 .1 .1 .0) ≡ length (first .args .mem .now)
+  len = g .go .kept .1 .1 .1 .1 .0 ∙ loop .loop .inv .0
 
-  midway : Midway whole (first .args .budget) (g .glide .result) (loop .loop .from) glided (g .glide .last .1 .1 .1 .1 .0) (first .args .map .now)
+  midway : Midway whole (first .args .budget) (g .go .result .left) (loop .loop .from) glided (g .go .last .1 .1 .1 .1 .0) (first .args .map .now)
   midway =
       let l = loop .loop in
-      joined _ _ (l .left) _ (l .from) (hart (l .x) (l .w)) glided (l .mem) (g .glide .last .1 .1 .1 .1 .0) _ (l .inv .2) (g .glide .ensures .0)
+      joined _ _ (l .left) _ (l .from) (hart (l .x) (l .w)) glided (l .mem) (g .go .last .1 .1 .1 .1 .0) _ (l .inv .2) (g .go .ensures .0)
 
--- after a step the whole way: the same, and how the run goes on or ends
+-- after a step the slow way: the same, and how the run goes on or ends
 module _ (o : tie.After-one Inv-loop μ-loop) where
-  abbrev before : tie.After-glide Inv-loop μ-loop
+  abbrev before : tie.After-go Inv-loop μ-loop
   before = o .before .before .before .before .before .before .before
 
-  some : 0 < before .glide .result
+  some : 0 < before .go .result .left
   some = omega (arith, o .before .before .before .before .if1 .left)
 
   step-len : length (o .one .last .1 .1 .1 .1 .0) ≡ length (first before .args .mem .now)
   step-len = o .one .kept .1 .1 .1 .1 .0 ∙ len before
 
   onward : o .one .result .trapped ≡ false
-      → Midway (whole before) (first before .args .budget) (before .glide .result - 1) Fetch (hart (o .one .last .0) (o .one .last .1 .0))
+      → Midway (whole before) (first before .args .budget) (before .go .result .left - 1) Fetch (hart (o .one .last .0) (o .one .last .1 .0))
       (o .one .last .1 .1 .1 .1 .0) (first before .args .map .now)
   onward q =
       let e = o .one .ensures in
-      goes-on _ _ _ _ (glided before) (before .glide .last .1 .1 .1 .1 .0) _ (midway before) some _ _ _ _ _ (e .0) (e .1 .0) (e .1 .1 .0)
+      goes-on _ _ _ _ (glided before) (before .go .last .1 .1 .1 .1 .0) _ (midway before) some _ _ _ _ _ (e .0) (e .1 .0) (e .1 .1 .0)
       (e .1 .1 .1 .0 .0) (e .1 .1 .1 .0 .1) q
 
   last : o .one .result .trapped ≡ true
@@ -79,17 +79,17 @@ module _ (o : tie.After-one Inv-loop μ-loop) where
       ≡ record {
         hart = hart (o .one .last .0) (o .one .last .1 .0);
         memory = o .one .last .1 .1 .1 .1 .0;
-        count = first before .args .budget - (before .glide .result - 1);
+        count = first before .args .budget - (before .go .result .left - 1);
         trapped = true;
         cause = o .one .result .cause;
       }
   last q =
       let e = o .one .ensures in
-      ends _ _ _ _ (glided before) (before .glide .last .1 .1 .1 .1 .0) _ (midway before) some _ _ _ _ _ (e .0) (e .1 .0) (e .1 .1 .0)
+      ends _ _ _ _ (glided before) (before .go .last .1 .1 .1 .1 .0) _ (midway before) some _ _ _ _ _ (e .0) (e .1 .0) (e .1 .1 .0)
       (e .1 .1 .1 .0 .0) (e .1 .1 .1 .0 .1) q
 
   kept : o .one .result .switched ≡ false → Knows (loop before .loop .k) (settingOf (o .one .last .1 .0))
-  kept q = rw (o .one .ensures .1 .1 .1 .1 q, before .glide .ensures .1) (loop before .loop .inv .1)
+  kept q = rw (o .one .ensures .1 .1 .1 .1 q, before .go .ensures .1) (loop before .loop .inv .1)
 
 returns : tie.Need-returns Inv-loop μ-loop
 returns c =
@@ -99,7 +99,7 @@ returns c =
 one-requires : tie.Need-one-requires Inv-loop μ-loop
 one-requires c κs =
     let g = c .before .before .before .before .before .before in
-    (rw (len g) (first g .pre), loop g .loop .inv .1 .0 ∙ sym (g .glide .ensures .1))
+    (rw (len g) (first g .pre), loop g .loop .inv .1 .0 ∙ sym (g .go .ensures .1))
 
 returns-2 : tie.Need-returns-2 Inv-loop μ-loop
 returns-2 c =
@@ -111,10 +111,27 @@ loop-again c =
     let o = c .before .before .before .before .before .before in
     (step-len o, c .known2 .ensures, onward o (c .before .before .before .if2 .left))
 
+again-requires : tie.Need-again-requires Inv-loop μ-loop
+again-requires c κs =
+    let e = c .before .before .before in
+    let o = e .before .before .before .before in
+    (rw (step-len o) (first (before o) .pre), kept o (e .if3 .left) .0)
+
+less : tie.Need-loop-less-2 Inv-loop μ-loop
+less c =
+    let q = c .before .before in
+    let o = q .before .before .before .before .before .before .before .before in
+    omega (arith, q .again .ensures .0 .0, some o, before o .go .ensures .0 .0)
+
 loop-again-2 : tie.Need-loop-again-2 Inv-loop μ-loop
 loop-again-2 c =
-    let o = c .before .before .before .before in
-    (step-len o, kept o (c .if3 .left), onward o (c .before .if2 .left))
+    let q = c .before .before in
+    let e = q .before .before .before .before in
+    let o = e .before .before .before .before in (
+      q .again .kept .1 .1 .1 .0 ∙ step-len o,
+      rw (q .again .ensures .1) (kept o (e .if3 .left)),
+      joined _ _ (before o .go .result .left - 1) _ Fetch _ _ _ _ _ (onward o (e .before .if2 .left)) (q .again .ensures .0),
+    )
 
 returns-3 : tie.Need-returns-3 Inv-loop μ-loop
 returns-3 c =
@@ -130,7 +147,7 @@ run-spec =
     μ-loop
     (λ c κs. search needs)
     loop-holds
-    glide-requires
+    go-requires
     (λ c κs. search needs)
     (λ c. len (c .before .before .before .before))
     returns
@@ -143,7 +160,8 @@ run-spec =
     (λ c κs. search needs)
     (λ c. search needs)
     loop-again
-    (λ c. search needs)
+    again-requires
+    less
     loop-again-2
     (λ c κs. search needs)
     (λ c. c .before .before .loop .inv .0)

@@ -1,0 +1,186 @@
+-- The memo at first, and with one more word.
+-- Assumes nothing.
+use mathlib.Core.Bool.{Bool, true, false}
+use mathlib.Core.List.{List}
+use mathlib.Core.Path.{_≡_, refl, sym, _∙_, ap, subst}
+use Prim.Native.Nat.{ℕ, _+_, _/_, _^_, _<_, _≤_}
+use native.Mathlib.Omega.{arith}
+use borrow.Author.Tests.{eqb-true, eqb-false}
+use lib.Dec.{eqb}
+use lib.ListN.{length, getD, set, length-set, replicate, getD-replicate}
+use lib.Seq.{getD-set-same, getD-set-other}
+use Rattle.regime.specs.declared.Setting.{Setting}
+use Rattle.form.specs.declared.Form.{Form}
+use Rattle.form.specs.declared.Op.{Op}
+use Rattle.form.specs.declared.Op.the-variants.{Add}
+use Rattle.fast.specs.Memo.{slotOf, tagAt, indexAt, formAt, flagAt, Read, Stands, Holds, numsWith, bytesWith}
+use Rattle.fast.proofs.Fetched.{read-as}
+
+-- at first every entry is empty
+pub blank : (bytes : List ℕ) (ops : List Op) (s : Setting) (m map : List ℕ) → Holds (replicate 12288 1) bytes ops s m map
+blank bytes ops s m map k l n =
+    let b : k < 12288 = omega (arith, l) in
+    absurd (n (getD-replicate 12288 k 1 1 b))
+
+-- three parts of 4,096 numbers, and a store at i into each
+module _ (xs : List ℕ) (i a b c : ℕ) (long : 12288 ≤ length xs) (low : i < 4096) where
+  abbrev one : List ℕ
+  one = set xs i a
+
+  abbrev two : List ℕ
+  two = set one (i + 4096) b
+
+  abbrev three : List ℕ
+  three = set two (i + 8192) c
+
+  length-three : length three ≡ length xs
+  length-three = length-set two (i + 8192) c ∙ length-set one (i + 4096) b ∙ length-set xs i a
+
+  -- any other number is as it was
+  apart : (n d : ℕ) → (n ≡ i → ⊥) → (n ≡ i + 4096 → ⊥) → (n ≡ i + 8192 → ⊥) → getD three n d ≡ getD xs n d
+  apart n d p q r = getD-set-other two (i + 8192) n c d r ∙ getD-set-other one (i + 4096) n b d q ∙ getD-set-other xs i n a d p
+
+  at-one : (d : ℕ) → getD three i d ≡ a
+  at-one d =
+      getD-set-other two (i + 8192) i c d (λ e. absurd (omega (arith, e)))
+      ∙ getD-set-other one (i + 4096) i b d (λ e. absurd (omega (arith, e)))
+      ∙ getD-set-same xs i a d (omega (arith, long, low))
+
+  at-two : (d : ℕ) → getD three (i + 4096) d ≡ b
+  at-two d =
+      getD-set-other two (i + 8192) (i + 4096) c d (λ e. absurd (omega (arith, e)))
+      ∙ getD-set-same one (i + 4096) b d (rw (length-set xs i a) (omega (arith, long, low)))
+
+  at-three : (d : ℕ) → getD three (i + 8192) d ≡ c
+  at-three d = getD-set-same two (i + 8192) c d (rw (length-set one (i + 4096) b, length-set xs i a) (omega (arith, long, low)))
+
+  -- and so are those of another entry
+  module _ (k d : ℕ) (l : k < 4096) (n : k ≡ i → ⊥) where
+    as-one : getD three k d ≡ getD xs k d
+    as-one = apart k d n (λ e. absurd (omega (arith, e, l))) (λ e. absurd (omega (arith, e, l)))
+
+    as-two : getD three (k + 4096) d ≡ getD xs (k + 4096) d
+    as-two =
+        apart (k + 4096) d (λ e. absurd (omega (arith, e, low))) (λ e. absurd (n (omega (arith, e)))) (λ e. absurd (omega (arith, e, l)))
+
+    as-three : getD three (k + 8192) d ≡ getD xs (k + 8192) d
+    as-three =
+        apart (k + 8192) d (λ e. absurd (omega (arith, e, low))) (λ e. absurd (omega (arith, e, low))) (λ e. absurd (n (omega (arith, e))))
+
+-- behind them the flags
+module _ (bytes : List ℕ) (f : Form) (at pc : ℕ) (long : length bytes ≡ 12544) (most : at < 2 ^ 20) where
+  abbrev registers : List ℕ
+  registers = three bytes (slotOf pc) (f .rd) (f .rs1) (f .rs2) (omega (arith, long)) (omega arith)
+
+  -- a flag's store is in no register's way
+  register : (n : ℕ) → n < 12288 → getD (bytesWith bytes pc at f) n 0 ≡ getD registers n 0
+  register n l = getD-set-other registers (at / 4096 + 12288) n 1 0 (λ e. absurd (omega (arith, e, l)))
+
+  flag-set : flagAt (bytesWith bytes pc at f) at ≡ 1
+  flag-set =
+      getD-set-same registers (at / 4096 + 12288) 1 0
+      (rw (length-three bytes (slotOf pc) (f .rd) (f .rs1) (f .rs2) (omega (arith, long)) (omega arith), long) (omega (arith, most)))
+
+  -- a flag that was set stays so
+  flag-stays : (n : ℕ) → flagAt bytes n ≡ 1 → flagAt (bytesWith bytes pc at f) n ≡ 1
+  flag-stays n old = go (eqb (n / 4096) (at / 4096)) refl
+    where
+      go : (t : Bool) → eqb (n / 4096) (at / 4096) ≡ t → flagAt (bytesWith bytes pc at f) n ≡ 1
+      go true e = ap (λ (j : ℕ). getD (bytesWith bytes pc at f) (j + 12288) 0) (eqb-true (n / 4096) (at / 4096) e) ∙ flag-set
+      go false e =
+          let m = eqb-false (n / 4096) (at / 4096) e in
+          getD-set-other registers (at / 4096 + 12288) (n / 4096 + 12288) 1 0 (λ d. m (omega (arith, d)))
+          ∙ apart bytes (slotOf pc) (f .rd) (f .rs1) (f .rs2) (omega (arith, long)) (omega arith) (n / 4096 + 12288) 0
+          (λ d. absurd (omega (arith, d)))
+          (λ d. absurd (omega (arith, d)))
+          (λ d. absurd (omega (arith, d)))
+          ∙ old
+
+-- a form by its parts
+form-as : (o o' : Op) (rd rd' rs1 rs1' rs2 rs2' v v' : ℕ) → o ≡ o' → rd ≡ rd' → rs1 ≡ rs1' → rs2 ≡ rs2' → v ≡ v'
+    → _≡_ {A = Form} (record { op = o; rd = rd; rs1 = rs1; rs2 = rs2; value = v })
+    (record { op = o'; rd = rd'; rs1 = rs1'; rs2 = rs2'; value = v' })
+form-as o o' rd rd' rs1 rs1' rs2 rs2' v v' p q r s t = rw (p, q, r, s, t)
+
+module _ (nums bytes : List ℕ) (ops : List Op) (s : Setting) (m map : List ℕ) (f : Form) (at pc : ℕ) (ln : length nums ≡ 12288)
+    (lb : length bytes ≡ 12544) (lo : length ops ≡ 4096) (most : at < 2 ^ 20) where
+  abbrev i : ℕ
+  i = slotOf pc
+
+  abbrev nums' : List ℕ
+  nums' = numsWith nums pc at (f .value)
+
+  abbrev bytes' : List ℕ
+  bytes' = bytesWith bytes pc at f
+
+  abbrev ops' : List Op
+  ops' = set ops (slotOf pc) (f .op)
+
+  low : slotOf pc < 4096
+  low = omega arith
+
+  wide : 12288 ≤ length nums
+  wide = omega (arith, ln)
+
+  broad : 12288 ≤ length bytes
+  broad = omega (arith, lb)
+
+  -- the entry of pc
+  own-tag : tagAt nums' i ≡ pc
+  own-tag = at-one nums i pc at (f .value) wide low 1
+
+  own-index : indexAt nums' i ≡ at
+  own-index = at-two nums i pc at (f .value) wide low 0
+
+  own-form : formAt nums' bytes' ops' i ≡ f
+  own-form =
+      form-as (getD ops' i Add) (f .op) (getD bytes' i 0) (f .rd) (getD bytes' (i + 4096) 0) (f .rs1) (getD bytes' (i + 8192) 0) (f .rs2)
+      (getD nums' (i + 8192) 0) (f .value)
+      (getD-set-same ops i (f .op) Add (rw lo low))
+      (register bytes f at pc lb most i (omega arith) ∙ at-one bytes i (f .rd) (f .rs1) (f .rs2) broad low 0)
+      (register bytes f at pc lb most (i + 4096) (omega arith) ∙ at-two bytes i (f .rd) (f .rs1) (f .rs2) broad low 0)
+      (register bytes f at pc lb most (i + 8192) (omega arith) ∙ at-three bytes i (f .rd) (f .rs1) (f .rs2) broad low 0)
+      (at-three nums i pc at (f .value) wide low 0)
+
+  own : Read f at pc s m map → Stands nums' bytes' ops' i s m map
+  own r = record {
+    slot = ap slotOf own-tag;
+    read = read-as f (formAt nums' bytes' ops' i) at (indexAt nums' i) pc (tagAt nums' i) s m map own-form own-index own-tag r;
+    flag = ap (flagAt bytes') own-index ∙ flag-set bytes f at pc lb most;
+  }
+
+  -- another one
+  module _ (k : ℕ) (l : k < 4096) (n : k ≡ slotOf pc → ⊥) where
+    tag : tagAt nums' k ≡ tagAt nums k
+    tag = as-one nums i pc at (f .value) wide low k 1 l n
+
+    index : indexAt nums' k ≡ indexAt nums k
+    index = as-two nums i pc at (f .value) wide low k 0 l n
+
+    form : formAt nums' bytes' ops' k ≡ formAt nums bytes ops k
+    form =
+        form-as (getD ops' k Add) (getD ops k Add) (getD bytes' k 0) (getD bytes k 0) (getD bytes' (k + 4096) 0) (getD bytes (k + 4096) 0)
+        (getD bytes' (k + 8192) 0) (getD bytes (k + 8192) 0) (getD nums' (k + 8192) 0) (getD nums (k + 8192) 0)
+        (getD-set-other ops i k (f .op) Add n)
+        (register bytes f at pc lb most k (omega (arith, l)) ∙ as-one bytes i (f .rd) (f .rs1) (f .rs2) broad low k 0 l n)
+        (register bytes f at pc lb most (k + 4096) (omega (arith, l)) ∙ as-two bytes i (f .rd) (f .rs1) (f .rs2) broad low k 0 l n)
+        (register bytes f at pc lb most (k + 8192) (omega (arith, l)) ∙ as-three bytes i (f .rd) (f .rs1) (f .rs2) broad low k 0 l n)
+        (as-three nums i pc at (f .value) wide low k 0 l n)
+
+    other : Stands nums bytes ops k s m map → Stands nums' bytes' ops' k s m map
+    other old = record {
+      slot = ap slotOf tag ∙ old .slot;
+      read = read-as (formAt nums bytes ops k) (formAt nums' bytes' ops' k) (indexAt nums k) (indexAt nums' k) (tagAt nums k) (tagAt nums' k) s m map
+          form index tag (old .read);
+      flag = ap (flagAt bytes') index ∙ flag-stays bytes f at pc lb most (indexAt nums k) (old .flag);
+    }
+
+  -- with the word at pc
+  pub entered : Read f at pc s m map → Holds nums bytes ops s m map → Holds nums' bytes' ops' s m map
+  entered r h k l n = go (eqb k (slotOf pc)) refl
+    where
+      go : (t : Bool) → eqb k (slotOf pc) ≡ t → Stands nums' bytes' ops' k s m map
+      go true e = subst (λ (j : ℕ). Stands nums' bytes' ops' j s m map) (sym (eqb-true k (slotOf pc) e)) (own r)
+      go false e =
+          let d = eqb-false k (slotOf pc) e in
+          other k l d (h k l (λ z. n (tag k l d ∙ z)))
