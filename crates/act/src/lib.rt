@@ -77,6 +77,14 @@ fn wrote(x: &mut [u64; 32], rd: usize, v: u64, next: u64) -> Acted
     went(next)
 }
 
+// Done: rd takes v, and pc goes on at the next instruction.
+fn computed(x: &mut [u64; 32], rd: usize, v: u64, pc: u64) -> Acted
+    requires { ⌜ rd < 32 ⌝ }
+    ensures { λ r. ⌜ (r ≡ record { done = true; pc = nextOf pc; stored = 0 }) × (now (x .exit) ≡ putOf rd v (now (x .entry))) ⌝ }
+{
+    wrote(x, rd, v, sum::sum(pc, 4))
+}
+
 // To a target, with the link in rd.
 fn jumped(x: &mut [u64; 32], rd: usize, link: u64, target: u64, pc: u64) -> Acted
     requires { ⌜ rd < 32 ⌝ }
@@ -237,44 +245,44 @@ pub fn act(
 {
     let b = sum::sum(r, v);
     match op {
-        Op::Add => wrote(x, rd, sum::sum(a, b), sum::sum(pc, 4)),
-        Op::Sub => wrote(x, rd, sum::difference(a, b), sum::sum(pc, 4)),
-        Op::Sll => wrote(x, rd, shift::left(a, b), sum::sum(pc, 4)),
-        Op::Slt => wrote(x, rd, one(order::signed_less(a, b)), sum::sum(pc, 4)),
-        Op::Sltu => wrote(x, rd, one(order::unsigned_less(a, b)), sum::sum(pc, 4)),
-        Op::Xor => wrote(x, rd, logic::xor(a, b), sum::sum(pc, 4)),
-        Op::Srl => wrote(x, rd, shift::right(a, b), sum::sum(pc, 4)),
-        Op::Sra => wrote(x, rd, shift::arithmetic(a, b), sum::sum(pc, 4)),
-        Op::Or => wrote(x, rd, logic::or(a, b), sum::sum(pc, 4)),
-        Op::And => wrote(x, rd, logic::and(a, b), sum::sum(pc, 4)),
-        Op::Mul => wrote(x, rd, multiply::product(a, b), sum::sum(pc, 4)),
-        Op::Mulh => wrote(x, rd, multiply::upper(true, true, a, b), sum::sum(pc, 4)),
-        Op::Mulhsu => wrote(x, rd, multiply::upper(true, false, a, b), sum::sum(pc, 4)),
-        Op::Mulhu => wrote(x, rd, multiply::upper(false, false, a, b), sum::sum(pc, 4)),
-        Op::Div => wrote(x, rd, divide::quotient(true, a, b), sum::sum(pc, 4)),
-        Op::Divu => wrote(x, rd, divide::quotient(false, a, b), sum::sum(pc, 4)),
-        Op::Rem => wrote(x, rd, divide::remainder(true, a, b), sum::sum(pc, 4)),
-        Op::Remu => wrote(x, rd, divide::remainder(false, a, b), sum::sum(pc, 4)),
-        Op::Min => wrote(x, rd, extreme::smaller(true, a, b), sum::sum(pc, 4)),
-        Op::Minu => wrote(x, rd, extreme::smaller(false, a, b), sum::sum(pc, 4)),
-        Op::Max => wrote(x, rd, extreme::larger(true, a, b), sum::sum(pc, 4)),
-        Op::Maxu => wrote(x, rd, extreme::larger(false, a, b), sum::sum(pc, 4)),
-        Op::Clz => wrote(x, rd, count::leading(a), sum::sum(pc, 4)),
-        Op::Ctz => wrote(x, rd, count::trailing(a), sum::sum(pc, 4)),
-        Op::Cpop => wrote(x, rd, count::set(a), sum::sum(pc, 4)),
-        Op::Addw => wrote(x, rd, sum::sum_word(a, b), sum::sum(pc, 4)),
-        Op::Subw => wrote(x, rd, sum::difference_word(a, b), sum::sum(pc, 4)),
-        Op::Sllw => wrote(x, rd, shift::left_word(a, b), sum::sum(pc, 4)),
-        Op::Srlw => wrote(x, rd, shift::right_word(a, b), sum::sum(pc, 4)),
-        Op::Sraw => wrote(x, rd, shift::arithmetic_word(a, b), sum::sum(pc, 4)),
-        Op::Mulw => wrote(x, rd, multiply::product_word(a, b), sum::sum(pc, 4)),
-        Op::Divw => wrote(x, rd, divide::quotient_word(true, a, b), sum::sum(pc, 4)),
-        Op::Divuw => wrote(x, rd, divide::quotient_word(false, a, b), sum::sum(pc, 4)),
-        Op::Remw => wrote(x, rd, divide::remainder_word(true, a, b), sum::sum(pc, 4)),
-        Op::Remuw => wrote(x, rd, divide::remainder_word(false, a, b), sum::sum(pc, 4)),
-        Op::Clzw => wrote(x, rd, count::leading_word(a), sum::sum(pc, 4)),
-        Op::Ctzw => wrote(x, rd, count::trailing_word(a), sum::sum(pc, 4)),
-        Op::Cpopw => wrote(x, rd, count::set_word(a), sum::sum(pc, 4)),
+        Op::Add => computed(x, rd, sum::sum(a, b), pc),
+        Op::Sub => computed(x, rd, sum::difference(a, b), pc),
+        Op::Sll => computed(x, rd, shift::left(a, b), pc),
+        Op::Slt => computed(x, rd, one(order::signed_less(a, b)), pc),
+        Op::Sltu => computed(x, rd, one(order::unsigned_less(a, b)), pc),
+        Op::Xor => computed(x, rd, logic::xor(a, b), pc),
+        Op::Srl => computed(x, rd, shift::right(a, b), pc),
+        Op::Sra => computed(x, rd, shift::arithmetic(a, b), pc),
+        Op::Or => computed(x, rd, logic::or(a, b), pc),
+        Op::And => computed(x, rd, logic::and(a, b), pc),
+        Op::Mul => computed(x, rd, multiply::product(a, b), pc),
+        Op::Mulh => computed(x, rd, multiply::upper(true, true, a, b), pc),
+        Op::Mulhsu => computed(x, rd, multiply::upper(true, false, a, b), pc),
+        Op::Mulhu => computed(x, rd, multiply::upper(false, false, a, b), pc),
+        Op::Div => computed(x, rd, divide::quotient(true, a, b), pc),
+        Op::Divu => computed(x, rd, divide::quotient(false, a, b), pc),
+        Op::Rem => computed(x, rd, divide::remainder(true, a, b), pc),
+        Op::Remu => computed(x, rd, divide::remainder(false, a, b), pc),
+        Op::Min => computed(x, rd, extreme::smaller(true, a, b), pc),
+        Op::Minu => computed(x, rd, extreme::smaller(false, a, b), pc),
+        Op::Max => computed(x, rd, extreme::larger(true, a, b), pc),
+        Op::Maxu => computed(x, rd, extreme::larger(false, a, b), pc),
+        Op::Clz => computed(x, rd, count::leading(a), pc),
+        Op::Ctz => computed(x, rd, count::trailing(a), pc),
+        Op::Cpop => computed(x, rd, count::set(a), pc),
+        Op::Addw => computed(x, rd, sum::sum_word(a, b), pc),
+        Op::Subw => computed(x, rd, sum::difference_word(a, b), pc),
+        Op::Sllw => computed(x, rd, shift::left_word(a, b), pc),
+        Op::Srlw => computed(x, rd, shift::right_word(a, b), pc),
+        Op::Sraw => computed(x, rd, shift::arithmetic_word(a, b), pc),
+        Op::Mulw => computed(x, rd, multiply::product_word(a, b), pc),
+        Op::Divw => computed(x, rd, divide::quotient_word(true, a, b), pc),
+        Op::Divuw => computed(x, rd, divide::quotient_word(false, a, b), pc),
+        Op::Remw => computed(x, rd, divide::remainder_word(true, a, b), pc),
+        Op::Remuw => computed(x, rd, divide::remainder_word(false, a, b), pc),
+        Op::Clzw => computed(x, rd, count::leading_word(a), pc),
+        Op::Ctzw => computed(x, rd, count::trailing_word(a), pc),
+        Op::Cpopw => computed(x, rd, count::set_word(a), pc),
         Op::Jal => jumped(x, rd, sum::sum(pc, 4), v, pc),
         Op::Jalr => jumped(x, rd, sum::sum(pc, 4), jump::even(sum::sum(a, v)), pc),
         Op::Beq => branch(a == r, x, v, pc),
@@ -373,7 +381,7 @@ pub fn act(
         Op::Sd => store(Width::Double, sum::sum(a, v), r, pc, c, mem, map, pages),
         Op::Push => push(r, w, pc, c, mem, map, pages),
         Op::Pop => pop(a, w, pc, c, mem, map, pages),
-        Op::ReadSsp => wrote(x, rd, w[SSP], sum::sum(pc, 4)),
+        Op::ReadSsp => computed(x, rd, w[SSP], pc),
         Op::Left => undone(pc),
     }
 }
