@@ -1,8 +1,8 @@
-// An instruction in a form that is quick to carry out: an operation that one byte names, three registers and a number. What was decoded once, and what
-// the setting says of it (a landing pad is expected, the shadow stack is off), is not asked again.
+// An instruction in a form that is quick to carry out: an operation that one byte names, three registers and a number. What was decoded once, and
+// what the setting says of it (a landing pad is expected, the shadow stack is off), is not asked again.
 //
-// OP-IMM and OP are one: the second operand is the second register's value and the number together, of which one is 0. LUI and AUIPC are sums likewise.
-// A jump's and a branch's number is its target.
+// OP-IMM and OP are one: the second operand is the second register's value and the number together, of which one is 0. LUI and AUIPC are sums
+// likewise. A jump's and a branch's number is its target.
 use effect::jump;
 use isa::Access;
 use isa::Condition;
@@ -248,9 +248,9 @@ fn access(k: Access, rd: u8, rs1: u8, rs2: u8, off: u64, on: bool) -> Form
     }
 }
 
-// The form of an instruction at pc, its registers' numbers as they are.
-fn shaped(i: Instruction, pc: u64, s: Setting) -> Form
-    ensures { λ r. ⌜ ((word : ℕ) → Means r i word pc s) ⌝ }
+// The form of an instruction at pc, its registers' numbers as they are. Of the setting it takes the pad enable and the shadow enable.
+fn shaped(i: Instruction, pc: u64, pad: bool, on: bool) -> Form
+    ensures { λ r. ⌜ ((word : ℕ) (s : setting.Setting) → s .pad ≡ pad → s .shadow ≡ on → Means r i word pc s) ⌝ }
 {
     match i {
         Instruction::Illegal => left(),
@@ -258,13 +258,13 @@ fn shaped(i: Instruction, pc: u64, s: Setting) -> Form
         Instruction::Auipc(rd, v) => make(Op::Add, rd, 0, 0, sum::sum(pc, v)),
         Instruction::Jal(rd, off) => make(Op::Jal, rd, 0, 0, sum::sum(pc, off)),
         Instruction::Jalr(rd, rs1, off) => {
-            if jump::expected(s.pad, jump::needs_no_pad(rs1)) {
+            if jump::expected(pad, jump::needs_no_pad(rs1)) {
                 return left();
             }
             make(Op::Jalr, rd, rs1, 0, off)
         }
         Instruction::Branch(k, rs1, rs2, off) => make(branch(k), 0, rs1, rs2, sum::sum(pc, off)),
-        Instruction::Memory(k, rd, rs1, rs2, off) => access(k, rd, rs1, rs2, off, s.shadow),
+        Instruction::Memory(k, rd, rs1, rs2, off) => access(k, rd, rs1, rs2, off, on),
         Instruction::OpImm(o, rd, rs1, v) => make(operation(o), rd, rs1, 0, v),
         Instruction::OpImm32(o, rd, rs1, v) => make(word_operation(o), rd, rs1, 0, v),
         Instruction::Op(o, rd, rs1, rs2) => make(operation(o), rd, rs1, rs2, 0),
@@ -276,7 +276,7 @@ fn shaped(i: Instruction, pc: u64, s: Setting) -> Form
         Instruction::Mret => left(),
         Instruction::Csr(_, _, _, _) => left(),
         Instruction::ReadSsp(rd) => {
-            if s.shadow {
+            if on {
                 return make(Op::ReadSsp, rd, 0, 0, 0);
             }
             zero(rd)
@@ -291,7 +291,7 @@ pub fn formed(i: Instruction, pc: u64, s: Setting) -> Form
     ensures means { λ r. ⌜ ((word : ℕ) → Means r i word pc s) ⌝ }
     ensures small { λ r. ⌜ (r .rd < 32) × (r .rs1 < 32) × (r .rs2 < 32) ⌝ }
 {
-    let f = shaped(i, pc, s);
+    let f = shaped(i, pc, s.pad, s.shadow);
     if f.rd < 32 {
         if f.rs1 < 32 {
             if f.rs2 < 32 {

@@ -27,6 +27,11 @@ pub struct Sought {
     pub at: usize,
 }
 
+// The checker knows an array's length where it is passed by value, and not behind a reference. Nothing is left of this when it is compiled.
+fn sized(ps: [u64; COUNT])
+    ensures { λ _. ⌜ length ps ≡ 512 ⌝ }
+{}
+
 fn nowhere() -> Sought
     ensures { λ r. ⌜ r .found ≡ false ⌝ }
 {
@@ -47,6 +52,7 @@ fn remember(ps: &mut [u64; COUNT], j: usize, k: Kind, a: u64, c: Control, mem: &
         Place::At(q) => {
             let at = q.index();
             if at + 4096 <= mem.len() {
+                sized(*ps);
                 ps[j * 2] = low;
                 ps[j * 2 + 1] = at as u64;
                 return;

@@ -1,0 +1,2 @@
+-- The laws of the forms that belong to no one function.
+pub mod Laws
