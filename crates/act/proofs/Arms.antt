@@ -7,7 +7,7 @@ use mathlib.Core.List.{List}
 use mathlib.Core.Path.{_≡_, refl, ap}
 use Prim.Native.Nat.{ℕ, _%_}
 use lib.Dec.{eqb}
-use lib.ListN.{length}
+use lib.ListN.{length, getD}
 use Rattle.word.specs.Choice.{pick}
 use Rattle.word.specs.Sum.{sumOf}
 use Rattle.isa.specs.declared.Access.the-variants as access
@@ -159,31 +159,28 @@ module _ (q : Case) (P : Type 0) where
     jalr-arm link to h f e g =
         kept Jalr f t x' w (h .0) (jalr-does (t .done) rd (nextOf pc) (sumOf a v) (t .pc) x w m x' (rw (← e, ← g) (h .1 w m))) p
 
-    pub branch-arm : (b : Bool)
-        → (t .stored ≡ 0) × ((w m : List ℕ) → Does (t .done) (branchOf b (nextOf pc) v) x w m (t .pc) x' w m)
-        → (k : Condition) → shapeOf o ≡ Branch k → b ≡ conditionOf k a r → Acts t x' w m
-    branch-arm b h k f e = kept (Branch k) f t x' w (h .0) (rw (← e) (h .1 w m)) p
+  pub branch-arm : (t : Acted) → P → getD x 0 0 ≡ 0 → (b : Bool)
+      → (t .stored ≡ 0) × ((x w m : List ℕ) → getD x 0 0 ≡ 0 → Does (t .done) (branchOf b (nextOf pc) v) x w m (t .pc) x w m)
+      → (k : Condition) → shapeOf o ≡ Branch k → b ≡ conditionOf k a r → Acts t x w m
+  branch-arm t p z b h k f e = kept (Branch k) f t x w (h .0) (rw (← e) (h .1 x w m z)) p
 
   -- an access
   module _ (t : Acted) where
-    pub load-arm : (n : Width) (sign : Bool) (at : ℕ) (x' : List ℕ)
-        → ((t .stored ≡ 0) × ((w : List ℕ) → Does (t .done) (atOf (access.Load n sign) (placeOf c kind.Load n at map (length m)) rd 0 0 0
+    pub load-arm : (n : Width) (sign : Bool) (x' : List ℕ)
+        → ((t .stored ≡ 0) × ((w : List ℕ) → Does (t .done) (atOf (access.Load n sign) (placeOf c kind.Load n (sumOf a v) map (length m)) rd 0 0 0
         (nextOf pc) m) x w m (t .pc) x' w m)) × P
-        → shapeOf o ≡ Memory (access.Load n sign) → at ≡ sumOf a v → Acts t x' w m
-    load-arm n sign at x' h f e =
+        → shapeOf o ≡ Memory (access.Load n sign) → Acts t x' w m
+    load-arm n sign x' h f =
         kept (Memory (access.Load n sign)) f t x' w (h .0 .0)
-        (does-as t _ _ x w m x' w m (rw (← e) (load-parts n sign _ rd a r ssp (nextOf pc) m)) (h .0 .1 w)) (h .1)
+        (does-as t _ _ x w m x' w m (load-parts n sign _ rd a r ssp (nextOf pc) m) (h .0 .1 w)) (h .1)
 
-    pub store-arm : (n : Width) (at : ℕ) (m' : List ℕ)
-        → ((x w : List ℕ) → Does (t .done) (atOf (access.Store n) (placeOf c kind.Store n at map (length m)) 0 0 r 0 (nextOf pc) m) x w m (t .pc) x w
-        m')
+    pub store-arm : (n : Width) (m' : List ℕ)
+        → ((x w : List ℕ) → Does (t .done) (atOf (access.Store n) (placeOf c kind.Store n (sumOf a v) map (length m)) 0 0 r 0 (nextOf pc) m) x w m
+        (t .pc) x w m')
         × (Touched (t .stored) m m' × P)
-        → shapeOf o ≡ Memory (access.Store n) → at ≡ sumOf a v → Acts t x w m'
-    store-arm n at m' h f e = (
-      told (Memory (access.Store n)) f t x w m'
-          (does-as t _ _ x w m x w m' (rw (← e) (store-parts n _ rd a r ssp (nextOf pc) m)) (h .0 x w)),
-      h .1,
-    )
+        → shapeOf o ≡ Memory (access.Store n) → Acts t x w m'
+    store-arm n m' h f =
+        (told (Memory (access.Store n)) f t x w m' (does-as t _ _ x w m x w m' (store-parts n _ rd a r ssp (nextOf pc) m) (h .0 x w)), h .1)
 
     pub push-arm : (w' m' : List ℕ)
         → ((x : List ℕ) → Does (t .done) (atOf access.Push (placeOf c kind.Push Double (pushOf ssp) map (length m)) 0 0 r ssp (nextOf pc) m) x w m

@@ -2,9 +2,11 @@
 -- Assumes nothing.
 use mathlib.Core.Bool.{Bool, true, false}
 use mathlib.Core.List.{List}
-use mathlib.Core.Path.{_≡_, refl}
+use mathlib.Core.Path.{_≡_, refl, sym, ap, _∙_}
 use Prim.Native.Nat.{ℕ}
 use native.Mathlib.Omega.{arith}
+use lib.ListN.{getD, set}
+use lib.Seq.{set-getD}
 use Rattle.effect.specs.Register.{putOf}
 use Rattle.effect.specs.declared.Effect.{Effect}
 use Rattle.effect.specs.declared.Effect.the-variants.{Write}
@@ -22,6 +24,18 @@ pub wrote-does : (t : Acted) (rd v next : ℕ) (x x' : List ℕ) → (t ≡ reco
     → (e : Effect) → e ≡ Write rd v next → (w m : List ℕ)
     → Does (t .done) e x w m (t .pc) x' w m
 wrote-does t rd v next x x' h e f w m = rw (h .0, f) (refl, h .1, refl, refl)
+
+-- writing 0 to register 0 changes nothing, if it is 0
+put-zero : (x : List ℕ) → getD x 0 0 ≡ 0 → x ≡ putOf 0 0 x
+put-zero x h =
+    let e : set x 0 0 ≡ x = ap (λ (v : ℕ). set x 0 v) (sym h) ∙ set-getD x 0 0 in
+    sym (ap (λ (l : List ℕ). set l 0 0) e ∙ e)
+
+-- nothing was written: an effect that writes 0 to register 0, which is 0
+pub stayed-does : (t : Acted) (next : ℕ) → t ≡ record { done = true; pc = next; stored = 0 } → (e : Effect) → e ≡ Write 0 0 next
+    → (x w m : List ℕ) → getD x 0 0 ≡ 0
+    → Does (t .done) e x w m (t .pc) x w m
+stayed-does t next h e f x w m z = rw (h, f) (refl, put-zero x z, refl, refl)
 
 -- pc went on, and something else was done
 pub went-does : (t : Acted) (next : ℕ) → t ≡ record { done = true; pc = next; stored = 0 } → (e : Effect) (x w m x' w' m' : List ℕ)

@@ -23,7 +23,8 @@ ghost use mathlib.Core.Bool.{Bool, true, false};
 ghost use mathlib.Core.List.{List};
 ghost use mathlib.Core.Path.{_≡_};
 ghost use Prim.Native.Nat.{ℕ, _+_, _^_, _<_, _≤_};
-ghost use lib.ListN.{length};
+ghost use lib.ListN.{length, getD};
+ghost use Rattle.word.specs.Sum.{sumOf};
 ghost use Rattle.isa.specs.declared.Access.the-variants as access;
 ghost use Rattle.isa.specs.declared.Kind.the-variants as kind;
 ghost use Rattle.isa.specs.declared.Width.the-variants.{Double};
@@ -97,16 +98,18 @@ fn jumped(x: &mut [u64; 32], rd: usize, link: u64, target: u64, pc: u64) -> Acte
     undone(pc)
 }
 
-// A branch that is not taken writes 0 to register 0, as its effect says: so it does something else than one that is, and the compiler does not make
-// one choice of an address of the two (docs/SPEED.md).
-fn branch(taken: bool, x: &mut [u64; 32], target: u64, pc: u64) -> Acted
+// A branch's effect writes 0 to register 0, which is 0 already.
+fn branch(taken: bool, target: u64, pc: u64) -> Acted
     ensures { λ r. ⌜ (r .stored ≡ 0)
-        × ((w m : List ℕ) → Does (r .done) (branchOf taken (nextOf pc) target) (now (x .entry)) w m (r .pc) (now (x .exit)) w m) ⌝ }
+        × ((x w m : List ℕ) → getD x 0 0 ≡ 0 → Does (r .done) (branchOf taken (nextOf pc) target) x w m (r .pc) x w m) ⌝ }
 {
     if taken {
-        return jumped(x, 0, 0, target, pc);
+        if target % 4 == 0 {
+            return went(target);
+        }
+        return undone(pc);
     }
-    wrote(x, 0, 0, sum::sum(pc, 4))
+    went(sum::sum(pc, 4))
 }
 
 fn load(
@@ -114,6 +117,7 @@ fn load(
     sign: bool,
     rd: usize,
     a: u64,
+    off: u64,
     x: &mut [u64; 32],
     pc: u64,
     c: Control,
@@ -122,12 +126,12 @@ fn load(
     pages: &mut [u64; PAGES],
 ) -> Acted
     requires { ⌜ (length (now mem) ≤ 2 ^ 20) × (rd < 32) × Remembers (now pages) c (now map) (length (now mem)) ⌝ }
-    ensures does { λ r. ⌜ (r .stored ≡ 0) × ((w : List ℕ) → Does (r .done) (atOf (access.Load n sign) (placeOf c kind.Load n a (now (map .entry))
-        (length (now (mem .entry)))) rd 0 0 0 (nextOf pc) (now (mem .entry))) (now (x .entry)) w (now (mem .entry)) (r .pc) (now (x .exit)) w
-        (now (mem .entry))) ⌝ }
+    ensures does { λ r. ⌜ (r .stored ≡ 0) × ((w : List ℕ) → Does (r .done) (atOf (access.Load n sign)
+        (placeOf c kind.Load n (sumOf a off) (now (map .entry)) (length (now (mem .entry)))) rd 0 0 0 (nextOf pc) (now (mem .entry))) (now (x .entry))
+        w (now (mem .entry)) (r .pc) (now (x .exit)) w (now (mem .entry))) ⌝ }
     ensures pages { λ _. ⌜ Remembers (now (pages .exit)) c (now (map .entry)) (length (now (mem .entry))) ⌝ }
 {
-    let q = pages::seek(pages, 0, Kind::Load, n, a, c, mem, map);
+    let q = pages::seek(pages, 0, Kind::Load, n, sum::sum(a, off), c, mem, map);
     if q.found {
         let v = memory::extend(n, sign, memory::load(mem, q.at, n));
         return wrote(x, rd, v, sum::sum(pc, 4));
@@ -138,6 +142,7 @@ fn load(
 fn store(
     n: Width,
     a: u64,
+    off: u64,
     v: u64,
     pc: u64,
     c: Control,
@@ -147,12 +152,12 @@ fn store(
 ) -> Acted
     requires { ⌜ (length (now mem) ≤ 2 ^ 20) × Remembers (now pages) c (now map) (length (now mem)) ⌝ }
     ensures does { λ r. ⌜ ((x w : List ℕ) → Does (r .done) (atOf (access.Store n)
-        (placeOf c kind.Store n a (now (map .entry)) (length (now (mem .entry)))) 0 0 v 0 (nextOf pc) (now (mem .entry))) x w (now (mem .entry))
-        (r .pc) x w (now (mem .exit))) ⌝ }
+        (placeOf c kind.Store n (sumOf a off) (now (map .entry)) (length (now (mem .entry)))) 0 0 v 0 (nextOf pc) (now (mem .entry))) x w
+        (now (mem .entry)) (r .pc) x w (now (mem .exit))) ⌝ }
     ensures stored { λ r. ⌜ Touched (r .stored) (now (mem .entry)) (now (mem .exit)) ⌝ }
     ensures pages { λ _. ⌜ Remembers (now (pages .exit)) c (now (map .entry)) (length (now (mem .entry))) ⌝ }
 {
-    let q = pages::seek(pages, 1, Kind::Store, n, a, c, mem, map);
+    let q = pages::seek(pages, 1, Kind::Store, n, sum::sum(a, off), c, mem, map);
     if q.found {
         let at = q.at;
         memory::store(mem, at, n, v);
@@ -237,7 +242,7 @@ pub fn act(
     map: &[u64],
     pages: &mut [u64; PAGES],
 ) -> Acted
-    requires { ⌜ (length (now mem) ≤ 2 ^ 20) × (rd < 32) × Remembers (now pages) c (now map) (length (now mem)) ⌝ }
+    requires { ⌜ (length (now mem) ≤ 2 ^ 20) × (rd < 32) × (getD (now x) 0 0 ≡ 0) × Remembers (now pages) c (now map) (length (now mem)) ⌝ }
     ensures does { λ t. ⌜ Does (t .done) (doesOf op rd a r v pc (SSP of now (w .entry)) c (now (mem .entry)) (now (map .entry))) (now (x .entry))
         (now (w .entry)) (now (mem .entry)) (t .pc) (now (x .exit)) (now (w .exit)) (now (mem .exit)) ⌝ }
     ensures stored { λ t. ⌜ Touched (t .stored) (now (mem .entry)) (now (mem .exit)) ⌝ }
@@ -285,100 +290,23 @@ pub fn act(
         Op::Cpopw => computed(x, rd, count::set_word(a), pc),
         Op::Jal => jumped(x, rd, sum::sum(pc, 4), v, pc),
         Op::Jalr => jumped(x, rd, sum::sum(pc, 4), jump::even(sum::sum(a, v)), pc),
-        Op::Beq => branch(a == r, x, v, pc),
-        Op::Bne => branch(!(a == r), x, v, pc),
-        Op::Blt => branch(order::signed_less(a, r), x, v, pc),
-        Op::Bge => branch(!order::signed_less(a, r), x, v, pc),
-        Op::Bltu => branch(order::unsigned_less(a, r), x, v, pc),
-        Op::Bgeu => branch(!order::unsigned_less(a, r), x, v, pc),
-        Op::Lb => load(
-            Width::Byte,
-            true,
-            rd,
-            sum::sum(a, v),
-            x,
-            pc,
-            c,
-            mem,
-            map,
-            pages,
-        ),
-        Op::Lh => load(
-            Width::Half,
-            true,
-            rd,
-            sum::sum(a, v),
-            x,
-            pc,
-            c,
-            mem,
-            map,
-            pages,
-        ),
-        Op::Lw => load(
-            Width::Word,
-            true,
-            rd,
-            sum::sum(a, v),
-            x,
-            pc,
-            c,
-            mem,
-            map,
-            pages,
-        ),
-        Op::Ld => load(
-            Width::Double,
-            true,
-            rd,
-            sum::sum(a, v),
-            x,
-            pc,
-            c,
-            mem,
-            map,
-            pages,
-        ),
-        Op::Lbu => load(
-            Width::Byte,
-            false,
-            rd,
-            sum::sum(a, v),
-            x,
-            pc,
-            c,
-            mem,
-            map,
-            pages,
-        ),
-        Op::Lhu => load(
-            Width::Half,
-            false,
-            rd,
-            sum::sum(a, v),
-            x,
-            pc,
-            c,
-            mem,
-            map,
-            pages,
-        ),
-        Op::Lwu => load(
-            Width::Word,
-            false,
-            rd,
-            sum::sum(a, v),
-            x,
-            pc,
-            c,
-            mem,
-            map,
-            pages,
-        ),
-        Op::Sb => store(Width::Byte, sum::sum(a, v), r, pc, c, mem, map, pages),
-        Op::Sh => store(Width::Half, sum::sum(a, v), r, pc, c, mem, map, pages),
-        Op::Sw => store(Width::Word, sum::sum(a, v), r, pc, c, mem, map, pages),
-        Op::Sd => store(Width::Double, sum::sum(a, v), r, pc, c, mem, map, pages),
+        Op::Beq => branch(a == r, v, pc),
+        Op::Bne => branch(!(a == r), v, pc),
+        Op::Blt => branch(order::signed_less(a, r), v, pc),
+        Op::Bge => branch(!order::signed_less(a, r), v, pc),
+        Op::Bltu => branch(order::unsigned_less(a, r), v, pc),
+        Op::Bgeu => branch(!order::unsigned_less(a, r), v, pc),
+        Op::Lb => load(Width::Byte, true, rd, a, v, x, pc, c, mem, map, pages),
+        Op::Lh => load(Width::Half, true, rd, a, v, x, pc, c, mem, map, pages),
+        Op::Lw => load(Width::Word, true, rd, a, v, x, pc, c, mem, map, pages),
+        Op::Ld => load(Width::Double, true, rd, a, v, x, pc, c, mem, map, pages),
+        Op::Lbu => load(Width::Byte, false, rd, a, v, x, pc, c, mem, map, pages),
+        Op::Lhu => load(Width::Half, false, rd, a, v, x, pc, c, mem, map, pages),
+        Op::Lwu => load(Width::Word, false, rd, a, v, x, pc, c, mem, map, pages),
+        Op::Sb => store(Width::Byte, a, v, r, pc, c, mem, map, pages),
+        Op::Sh => store(Width::Half, a, v, r, pc, c, mem, map, pages),
+        Op::Sw => store(Width::Word, a, v, r, pc, c, mem, map, pages),
+        Op::Sd => store(Width::Double, a, v, r, pc, c, mem, map, pages),
         Op::Push => push(r, w, pc, c, mem, map, pages),
         Op::Pop => pop(a, w, pc, c, mem, map, pages),
         Op::ReadSsp => computed(x, rd, w[SSP], pc),

@@ -53,13 +53,13 @@ module _ (g : tie.After-sum) where
       → (t ≡ record { done = true; pc = nextOf (case .pc); stored = 0 }) × (x' ≡ putOf (case .rd) u (case .x))
       → shapeOf (case .op) ≡ Compute k → u ≡ operationOf k (case .a) (g .sum .result)
       → Acts case Pages t x' (case .w) (case .m)
-  row k u t x' h f e = compute-arm case Pages u t x' h (s .pre .2) k f _ (g .sum .ensures) e
+  row k u t x' h f e = compute-arm case Pages u t x' h (s .pre .3) k f _ (g .sum .ensures) e
 
   word-row : (k : WordOperation) (u : ℕ) (t : Acted) (x' : List ℕ)
       → (t ≡ record { done = true; pc = nextOf (case .pc); stored = 0 }) × (x' ≡ putOf (case .rd) u (case .x))
       → shapeOf (case .op) ≡ ComputeWord k → u ≡ wordOperationOf k (case .a) (g .sum .result)
       → Acts case Pages t x' (case .w) (case .m)
-  word-row k u t x' h f e = word-arm case Pages u t x' h (s .pre .2) k f _ (g .sum .ensures) e
+  word-row k u t x' h f e = word-arm case Pages u t x' h (s .pre .3) k f _ (g .sum .ensures) e
 
 returns : tie.Need-returns
 returns c =
@@ -256,110 +256,106 @@ returns-38 c =
 returns-39 : tie.Need-returns-39
 returns-39 c =
     jal-arm (case (c .before .before .before .before .before)) _ (c .jumped .result) _
-    (c .before .before .before .before .before .before .before .before .pre .2) _ (c .jumped .ensures)
+    (c .before .before .before .before .before .before .before .before .pre .3) _ (c .jumped .ensures)
     (ap shapeOf (c .before .before .before .enum-told39 .given .1)) (c .before .sum3 .ensures)
 
 returns-40 : tie.Need-returns-40
 returns-40 c =
     jalr-arm (case (c .before .before .before .before .before .before .before)) _ (c .jumped2 .result) _
-    (c .before .before .before .before .before .before .before .before .before .before .pre .2) _ _ (c .jumped2 .ensures)
+    (c .before .before .before .before .before .before .before .before .before .before .pre .3) _ _ (c .jumped2 .ensures)
     (ap shapeOf (c .before .before .before .before .before .enum-told40 .given .1)) (c .before .before .before .sum4 .ensures)
     (c .before .even .ensures ∙ ap evenOf (c .before .before .sum5 .ensures))
 
 returns-41 : tie.Need-returns-41
 returns-41 c =
-    branch-arm (case (c .before .before .before .before)) _ (c .branch .result) _
-    (c .before .before .before .before .before .before .before .pre .2) _ (c .branch .ensures) condition.Equal
-    (ap shapeOf (c .before .before .enum-told41 .given .1)) refl
+    branch-arm (case (c .before .before .before)) _ (c .branch .result) (c .before .before .before .before .before .before .pre .3)
+    (c .before .before .before .before .before .before .pre .2) _ (c .branch .ensures) condition.Equal
+    (ap shapeOf (c .before .enum-told41 .given .1)) refl
 
 returns-42 : tie.Need-returns-42
 returns-42 c =
-    branch-arm (case (c .before .before .before .before)) _ (c .branch2 .result) _
-    (c .before .before .before .before .before .before .before .pre .2) _ (c .branch2 .ensures) condition.NotEqual
-    (ap shapeOf (c .before .before .enum-told42 .given .1)) refl
+    branch-arm (case (c .before .before .before)) _ (c .branch2 .result) (c .before .before .before .before .before .before .pre .3)
+    (c .before .before .before .before .before .before .pre .2) _ (c .branch2 .ensures) condition.NotEqual
+    (ap shapeOf (c .before .enum-told42 .given .1)) refl
 
 returns-43 : tie.Need-returns-43
 returns-43 c =
-    branch-arm (case (c .before .before .before .before .before)) _ (c .branch3 .result) _
-    (c .before .before .before .before .before .before .before .before .pre .2) _ (c .branch3 .ensures) condition.Less
-    (ap shapeOf (c .before .before .before .enum-told43 .given .1)) (c .before .before .signed-less2 .ensures)
+    branch-arm (case (c .before .before .before .before)) _ (c .branch3 .result) (c .before .before .before .before .before .before .before .pre .3)
+    (c .before .before .before .before .before .before .before .pre .2) _ (c .branch3 .ensures) condition.Less
+    (ap shapeOf (c .before .before .enum-told43 .given .1)) (c .before .signed-less2 .ensures)
 
 returns-44 : tie.Need-returns-44
 returns-44 c =
-    branch-arm (case (c .before .before .before .before .before)) _ (c .branch4 .result) _
-    (c .before .before .before .before .before .before .before .before .pre .2) _ (c .branch4 .ensures) condition.NotLess
-    (ap shapeOf (c .before .before .before .enum-told44 .given .1)) (ap not (c .before .before .signed-less3 .ensures))
+    branch-arm (case (c .before .before .before .before)) _ (c .branch4 .result) (c .before .before .before .before .before .before .before .pre .3)
+    (c .before .before .before .before .before .before .before .pre .2) _ (c .branch4 .ensures) condition.NotLess
+    (ap shapeOf (c .before .before .enum-told44 .given .1)) (ap not (c .before .signed-less3 .ensures))
 
 returns-45 : tie.Need-returns-45
 returns-45 c =
-    branch-arm (case (c .before .before .before .before .before)) _ (c .branch5 .result) _
-    (c .before .before .before .before .before .before .before .before .pre .2) _ (c .branch5 .ensures) condition.LessUnsigned
-    (ap shapeOf (c .before .before .before .enum-told45 .given .1)) (c .before .before .unsigned-less2 .ensures)
+    branch-arm (case (c .before .before .before .before)) _ (c .branch5 .result) (c .before .before .before .before .before .before .before .pre .3)
+    (c .before .before .before .before .before .before .before .pre .2) _ (c .branch5 .ensures) condition.LessUnsigned
+    (ap shapeOf (c .before .before .enum-told45 .given .1)) (c .before .unsigned-less2 .ensures)
 
 returns-46 : tie.Need-returns-46
 returns-46 c =
-    branch-arm (case (c .before .before .before .before .before)) _ (c .branch6 .result) _
-    (c .before .before .before .before .before .before .before .before .pre .2) _ (c .branch6 .ensures) condition.NotLessUnsigned
-    (ap shapeOf (c .before .before .before .enum-told46 .given .1)) (ap not (c .before .before .unsigned-less3 .ensures))
+    branch-arm (case (c .before .before .before .before)) _ (c .branch6 .result) (c .before .before .before .before .before .before .before .pre .3)
+    (c .before .before .before .before .before .before .before .pre .2) _ (c .branch6 .ensures) condition.NotLessUnsigned
+    (ap shapeOf (c .before .before .enum-told46 .given .1)) (ap not (c .before .unsigned-less3 .ensures))
 
 returns-47 : tie.Need-returns-47
 returns-47 c =
-    load-arm (case (c .before .before .before .before .before .before .before)) _ (c .load .result) _ _ _ _ (c .load .ensures)
-    (ap shapeOf (c .before .before .before .before .before .enum-told47 .given .1)) (c .before .before .before .before .sum6 .ensures)
+    load-arm (case (c .before .before .before .before .before .before)) _ (c .load .result) _ _ _ (c .load .ensures)
+    (ap shapeOf (c .before .before .before .before .enum-told47 .given .1))
 
 returns-48 : tie.Need-returns-48
 returns-48 c =
-    load-arm (case (c .before .before .before .before .before .before .before)) _ (c .load2 .result) _ _ _ _ (c .load2 .ensures)
-    (ap shapeOf (c .before .before .before .before .before .enum-told48 .given .1)) (c .before .before .before .before .sum7 .ensures)
+    load-arm (case (c .before .before .before .before .before .before)) _ (c .load2 .result) _ _ _ (c .load2 .ensures)
+    (ap shapeOf (c .before .before .before .before .enum-told48 .given .1))
 
 returns-49 : tie.Need-returns-49
 returns-49 c =
-    load-arm (case (c .before .before .before .before .before .before .before)) _ (c .load3 .result) _ _ _ _ (c .load3 .ensures)
-    (ap shapeOf (c .before .before .before .before .before .enum-told49 .given .1)) (c .before .before .before .before .sum8 .ensures)
+    load-arm (case (c .before .before .before .before .before .before)) _ (c .load3 .result) _ _ _ (c .load3 .ensures)
+    (ap shapeOf (c .before .before .before .before .enum-told49 .given .1))
 
 returns-50 : tie.Need-returns-50
 returns-50 c =
-    load-arm (case (c .before .before .before .before .before .before .before)) _ (c .load4 .result) _ _ _ _ (c .load4 .ensures)
-    (ap shapeOf (c .before .before .before .before .before .enum-told50 .given .1)) (c .before .before .before .before .sum9 .ensures)
+    load-arm (case (c .before .before .before .before .before .before)) _ (c .load4 .result) _ _ _ (c .load4 .ensures)
+    (ap shapeOf (c .before .before .before .before .enum-told50 .given .1))
 
 returns-51 : tie.Need-returns-51
 returns-51 c =
-    load-arm (case (c .before .before .before .before .before .before .before)) _ (c .load5 .result) _ _ _ _ (c .load5 .ensures)
-    (ap shapeOf (c .before .before .before .before .before .enum-told51 .given .1)) (c .before .before .before .before .sum10 .ensures)
+    load-arm (case (c .before .before .before .before .before .before)) _ (c .load5 .result) _ _ _ (c .load5 .ensures)
+    (ap shapeOf (c .before .before .before .before .enum-told51 .given .1))
 
 returns-52 : tie.Need-returns-52
 returns-52 c =
-    load-arm (case (c .before .before .before .before .before .before .before)) _ (c .load6 .result) _ _ _ _ (c .load6 .ensures)
-    (ap shapeOf (c .before .before .before .before .before .enum-told52 .given .1)) (c .before .before .before .before .sum11 .ensures)
+    load-arm (case (c .before .before .before .before .before .before)) _ (c .load6 .result) _ _ _ (c .load6 .ensures)
+    (ap shapeOf (c .before .before .before .before .enum-told52 .given .1))
 
 returns-53 : tie.Need-returns-53
 returns-53 c =
-    load-arm (case (c .before .before .before .before .before .before .before)) _ (c .load7 .result) _ _ _ _ (c .load7 .ensures)
-    (ap shapeOf (c .before .before .before .before .before .enum-told53 .given .1)) (c .before .before .before .before .sum12 .ensures)
+    load-arm (case (c .before .before .before .before .before .before)) _ (c .load7 .result) _ _ _ (c .load7 .ensures)
+    (ap shapeOf (c .before .before .before .before .enum-told53 .given .1))
 
 returns-54 : tie.Need-returns-54
 returns-54 c =
-    store-arm (case (c .before .before .before .before .before .before .before .before)) _ (c .before .before .store .result) _ _ _
-    (c .before .before .store .ensures) (ap shapeOf (c .before .before .before .before .before .before .enum-told54 .given .1))
-    (c .before .before .before .before .before .sum13 .ensures)
+    store-arm (case (c .before .before .before .before .before .before .before)) _ (c .before .before .store .result) _ _
+    (c .before .before .store .ensures) (ap shapeOf (c .before .before .before .before .before .enum-told54 .given .1))
 
 returns-55 : tie.Need-returns-55
 returns-55 c =
-    store-arm (case (c .before .before .before .before .before .before .before .before)) _ (c .before .before .store2 .result) _ _ _
-    (c .before .before .store2 .ensures) (ap shapeOf (c .before .before .before .before .before .before .enum-told55 .given .1))
-    (c .before .before .before .before .before .sum14 .ensures)
+    store-arm (case (c .before .before .before .before .before .before .before)) _ (c .before .before .store2 .result) _ _
+    (c .before .before .store2 .ensures) (ap shapeOf (c .before .before .before .before .before .enum-told55 .given .1))
 
 returns-56 : tie.Need-returns-56
 returns-56 c =
-    store-arm (case (c .before .before .before .before .before .before .before .before)) _ (c .before .before .store3 .result) _ _ _
-    (c .before .before .store3 .ensures) (ap shapeOf (c .before .before .before .before .before .before .enum-told56 .given .1))
-    (c .before .before .before .before .before .sum15 .ensures)
+    store-arm (case (c .before .before .before .before .before .before .before)) _ (c .before .before .store3 .result) _ _
+    (c .before .before .store3 .ensures) (ap shapeOf (c .before .before .before .before .before .enum-told56 .given .1))
 
 returns-57 : tie.Need-returns-57
 returns-57 c =
-    store-arm (case (c .before .before .before .before .before .before .before .before)) _ (c .before .before .store4 .result) _ _ _
-    (c .before .before .store4 .ensures) (ap shapeOf (c .before .before .before .before .before .before .enum-told57 .given .1))
-    (c .before .before .before .before .before .sum16 .ensures)
+    store-arm (case (c .before .before .before .before .before .before .before)) _ (c .before .before .store4 .result) _ _
+    (c .before .before .store4 .ensures) (ap shapeOf (c .before .before .before .before .before .enum-told57 .given .1))
 
 returns-58 : tie.Need-returns-58
 returns-58 c =
@@ -374,11 +370,11 @@ returns-59 c =
 returns-60 : tie.Need-returns-60
 returns-60 c =
     ssp-arm (case (c .before .before .before .before .before)) _ _ _ _ (c .computed39 .ensures)
-    (c .before .before .before .before .before .before .before .before .pre .2) (ap shapeOf (c .before .before .before .enum-told60 .given .1)) refl
+    (c .before .before .before .before .before .before .before .before .pre .3) (ap shapeOf (c .before .before .before .enum-told60 .given .1)) refl
 
 returns-61 : tie.Need-returns-61
 returns-61 c =
-    left-arm (case (c .before .before .before)) _ _ (c .undone .ensures) (c .before .before .before .before .before .before .pre .2)
+    left-arm (case (c .before .before .before)) _ _ (c .undone .ensures) (c .before .before .before .before .before .before .pre .3)
 
 pub act-spec : {M : Type 1} → statement M
 act-spec =
@@ -412,20 +408,17 @@ act-spec =
     (λ c. search needs) (λ c κs. search needs) (λ c. search needs) (λ c κs. search needs) (λ c. search needs)
     (λ c κs. search needs) (λ c κs. search needs) (λ c. search needs) (λ c κs. search needs) (λ c κs. search needs)
     (λ c. search needs) (λ c κs. search needs) (λ c κs. search needs) (λ c. search needs) (λ c κs. search needs)
-    (λ c κs. search needs) (λ c. search needs) (λ c κs. search needs) (λ c κs. search needs) (λ c. search needs)
-    (λ c κs. search needs) (λ c κs. search needs) (λ c. search needs) (λ c κs. search needs) (λ c κs. search needs)
-    (λ c. search needs) (λ c κs. search needs) (λ c κs. search needs) (λ c. search needs) (λ c κs. search needs)
-    (λ c κs. search needs) (λ c. search needs) (λ c κs. search needs) (λ c κs. search needs) (λ c. search needs)
-    (λ c κs. search needs) (λ c κs. search needs) (λ c. search needs) (λ c κs. search needs) (λ c κs. search needs)
-    (λ c. search needs) (λ c κs. search needs) (λ c κs. search needs) (λ c. search needs) (λ c κs. search needs)
-    (λ c κs. search needs) (λ c. search needs) (λ c κs. search needs) (λ c κs. search needs) (λ c. search needs)
-    (λ c κs. search needs) (λ c. search needs) (λ c κs. search needs) (λ c. search needs) (λ c. search needs)
-    (λ c κs. search needs) (λ c. search needs) (λ c κs. search needs) returns returns-2 returns-3 returns-4 returns-5 returns-6
-    returns-7 returns-8 returns-9 returns-10 returns-11 returns-12 returns-13 returns-14 returns-15 returns-16 returns-17
-    returns-18 returns-19 returns-20 returns-21 returns-22 returns-23 returns-24 returns-25 returns-26 returns-27 returns-28
-    returns-29 returns-30 returns-31 returns-32 returns-33 returns-34 returns-35 returns-36 returns-37 returns-38 returns-39
-    returns-40 returns-41 returns-42 returns-43 returns-44 returns-45 returns-46 (λ c. search needs) returns-47
-    (λ c. search needs) returns-48 (λ c. search needs) returns-49 (λ c. search needs) returns-50 (λ c. search needs) returns-51
-    (λ c. search needs) returns-52 (λ c. search needs) returns-53 (λ c. search needs) returns-54 (λ c. search needs) returns-55
-    (λ c. search needs) returns-56 (λ c. search needs) returns-57 (λ c. search needs) returns-58 (λ c. search needs) returns-59
-    returns-60 returns-61)
+    (λ c κs. search needs) (λ c. search needs) (λ c κs. search needs) (λ c. search needs) (λ c κs. search needs)
+    (λ c. search needs) (λ c κs. search needs) (λ c. search needs) (λ c κs. search needs) (λ c. search needs)
+    (λ c κs. search needs) (λ c. search needs) (λ c κs. search needs) (λ c. search needs) (λ c κs. search needs)
+    (λ c. search needs) (λ c κs. search needs) (λ c. search needs) (λ c κs. search needs) (λ c. search needs)
+    (λ c κs. search needs) (λ c. search needs) (λ c κs. search needs) (λ c. search needs) (λ c κs. search needs)
+    (λ c. search needs) (λ c κs. search needs) (λ c. search needs) (λ c. search needs) (λ c κs. search needs) (λ c. search needs)
+    (λ c κs. search needs) returns returns-2 returns-3 returns-4 returns-5 returns-6 returns-7 returns-8 returns-9 returns-10
+    returns-11 returns-12 returns-13 returns-14 returns-15 returns-16 returns-17 returns-18 returns-19 returns-20 returns-21
+    returns-22 returns-23 returns-24 returns-25 returns-26 returns-27 returns-28 returns-29 returns-30 returns-31 returns-32
+    returns-33 returns-34 returns-35 returns-36 returns-37 returns-38 returns-39 returns-40 returns-41 returns-42 returns-43
+    returns-44 returns-45 returns-46 (λ c. search needs) returns-47 (λ c. search needs) returns-48 (λ c. search needs) returns-49
+    (λ c. search needs) returns-50 (λ c. search needs) returns-51 (λ c. search needs) returns-52 (λ c. search needs) returns-53
+    (λ c. search needs) returns-54 (λ c. search needs) returns-55 (λ c. search needs) returns-56 (λ c. search needs) returns-57
+    (λ c. search needs) returns-58 (λ c. search needs) returns-59 returns-60 returns-61)

@@ -13,14 +13,15 @@ returns c =
     let h = c .wrote .ensures in
     let e = c .before .before .before in
     let t = e .before .before in
+    let place = t .before .before .sum .ensures in
     let read = read-there _ _ _ _ (sym (e .before .load .ensures)) in (
       (
         still _ _ _ (h .0),
         λ w. wrote-does _ _ _ _ _ _ h _ (rw (
-          t .before .seek .ensures .0 (t .if1 .taken),
+          rw place at (t .before .seek .ensures .0 (t .if1 .taken)),
           e .extend .ensures,
           read,
-          c .before .sum .ensures,
+          c .before .sum2 .ensures,
         )) w _,
       ),
       t .before .seek .ensures .1,
@@ -35,6 +36,7 @@ pub load-spec : {M : Type 1} → statement M
 load-spec =
     tie.close
     (tie.spec
+    (λ c κs. search needs)
     (λ c κs. search needs)
     (λ c κs. fits _ _ _ _ _ _ _ (c .before .seek .ensures .0 (c .if1 .taken)))
     (λ c κs. search needs)

@@ -14,8 +14,8 @@ unfolding doneOf
 returns c =
     let s = c .before .before .before in
     let t = s .before .before in
-    let found = t .before .seek .ensures .0 (t .if1 .taken) in (
-      (λ x w. placed _ _ _ _ _ _ _ _ _ _ _ _ _ _ _ found (c .sum .ensures, refl, refl, stored-there _ _ _ _ _ (s .store .ensures))),
+    let found = rw (t .before .before .before .sum .ensures) at (t .before .seek .ensures .0 (t .if1 .taken)) in (
+      (λ x w. placed _ _ _ _ _ _ _ _ _ _ _ _ _ _ _ found (c .sum2 .ensures, refl, refl, stored-there _ _ _ _ _ (s .store .ensures))),
       (touched _ _ _ _ _ _ _ found _ _ _ refl (s .store .ensures), t .before .seek .ensures .1),
     )
 
@@ -28,6 +28,7 @@ pub store-spec : {M : Type 1} → statement M
 store-spec =
     tie.close
     (tie.spec
+    (λ c κs. search needs)
     (λ c κs. search needs)
     (λ c κs. fits _ _ _ _ _ _ _ (c .before .before .seek .ensures .0 (c .before .if1 .taken)))
     (λ c κs. search needs)
