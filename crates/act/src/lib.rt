@@ -23,7 +23,8 @@ ghost use mathlib.Core.Bool.{Bool, true, false};
 ghost use mathlib.Core.List.{List};
 ghost use mathlib.Core.Path.{_≡_};
 ghost use Prim.Native.Nat.{ℕ, _+_, _^_, _<_, _≤_};
-ghost use lib.ListN.{length};
+ghost use lib.ListN.{length, getD};
+ghost use Rattle.word.specs.Sum.{sumOf};
 ghost use Rattle.isa.specs.declared.Access.the-variants as access;
 ghost use Rattle.isa.specs.declared.Kind.the-variants as kind;
 ghost use Rattle.isa.specs.declared.Width.the-variants.{Double};
@@ -77,6 +78,14 @@ fn wrote(x: &mut [u64; 32], rd: usize, v: u64, next: u64) -> Acted
     went(next)
 }
 
+// Done: rd takes v, and pc goes on at the next instruction.
+fn computed(x: &mut [u64; 32], rd: usize, v: u64, pc: u64) -> Acted
+    requires { ⌜ rd < 32 ⌝ }
+    ensures { λ r. ⌜ (r ≡ record { done = true; pc = nextOf pc; stored = 0 }) × (now (x .exit) ≡ putOf rd v (now (x .entry))) ⌝ }
+{
+    wrote(x, rd, v, sum::sum(pc, 4))
+}
+
 // To a target, with the link in rd.
 fn jumped(x: &mut [u64; 32], rd: usize, link: u64, target: u64, pc: u64) -> Acted
     requires { ⌜ rd < 32 ⌝ }
@@ -89,16 +98,18 @@ fn jumped(x: &mut [u64; 32], rd: usize, link: u64, target: u64, pc: u64) -> Acte
     undone(pc)
 }
 
-// A branch that is not taken writes 0 to register 0, as its effect says: so it does something else than one that is, and the compiler does not make
-// one choice of an address of the two (docs/SPEED.md).
-fn branch(taken: bool, x: &mut [u64; 32], target: u64, pc: u64) -> Acted
+// A branch's effect writes 0 to register 0, which is 0 already.
+fn branch(taken: bool, target: u64, pc: u64) -> Acted
     ensures { λ r. ⌜ (r .stored ≡ 0)
-        × ((w m : List ℕ) → Does (r .done) (branchOf taken (nextOf pc) target) (now (x .entry)) w m (r .pc) (now (x .exit)) w m) ⌝ }
+        × ((x w m : List ℕ) → getD x 0 0 ≡ 0 → Does (r .done) (branchOf taken (nextOf pc) target) x w m (r .pc) x w m) ⌝ }
 {
     if taken {
-        return jumped(x, 0, 0, target, pc);
+        if target % 4 == 0 {
+            return went(target);
+        }
+        return undone(pc);
     }
-    wrote(x, 0, 0, sum::sum(pc, 4))
+    went(sum::sum(pc, 4))
 }
 
 fn load(
@@ -106,6 +117,7 @@ fn load(
     sign: bool,
     rd: usize,
     a: u64,
+    off: u64,
     x: &mut [u64; 32],
     pc: u64,
     c: Control,
@@ -114,12 +126,12 @@ fn load(
     pages: &mut [u64; PAGES],
 ) -> Acted
     requires { ⌜ (length (now mem) ≤ 2 ^ 20) × (rd < 32) × Remembers (now pages) c (now map) (length (now mem)) ⌝ }
-    ensures does { λ r. ⌜ (r .stored ≡ 0) × ((w : List ℕ) → Does (r .done) (atOf (access.Load n sign) (placeOf c kind.Load n a (now (map .entry))
-        (length (now (mem .entry)))) rd 0 0 0 (nextOf pc) (now (mem .entry))) (now (x .entry)) w (now (mem .entry)) (r .pc) (now (x .exit)) w
-        (now (mem .entry))) ⌝ }
+    ensures does { λ r. ⌜ (r .stored ≡ 0) × ((w : List ℕ) → Does (r .done) (atOf (access.Load n sign)
+        (placeOf c kind.Load n (sumOf a off) (now (map .entry)) (length (now (mem .entry)))) rd 0 0 0 (nextOf pc) (now (mem .entry))) (now (x .entry))
+        w (now (mem .entry)) (r .pc) (now (x .exit)) w (now (mem .entry))) ⌝ }
     ensures pages { λ _. ⌜ Remembers (now (pages .exit)) c (now (map .entry)) (length (now (mem .entry))) ⌝ }
 {
-    let q = pages::seek(pages, 0, Kind::Load, n, a, c, mem, map);
+    let q = pages::seek(pages, 0, Kind::Load, n, sum::sum(a, off), c, mem, map);
     if q.found {
         let v = memory::extend(n, sign, memory::load(mem, q.at, n));
         return wrote(x, rd, v, sum::sum(pc, 4));
@@ -130,6 +142,7 @@ fn load(
 fn store(
     n: Width,
     a: u64,
+    off: u64,
     v: u64,
     pc: u64,
     c: Control,
@@ -139,12 +152,12 @@ fn store(
 ) -> Acted
     requires { ⌜ (length (now mem) ≤ 2 ^ 20) × Remembers (now pages) c (now map) (length (now mem)) ⌝ }
     ensures does { λ r. ⌜ ((x w : List ℕ) → Does (r .done) (atOf (access.Store n)
-        (placeOf c kind.Store n a (now (map .entry)) (length (now (mem .entry)))) 0 0 v 0 (nextOf pc) (now (mem .entry))) x w (now (mem .entry))
-        (r .pc) x w (now (mem .exit))) ⌝ }
+        (placeOf c kind.Store n (sumOf a off) (now (map .entry)) (length (now (mem .entry)))) 0 0 v 0 (nextOf pc) (now (mem .entry))) x w
+        (now (mem .entry)) (r .pc) x w (now (mem .exit))) ⌝ }
     ensures stored { λ r. ⌜ Touched (r .stored) (now (mem .entry)) (now (mem .exit)) ⌝ }
     ensures pages { λ _. ⌜ Remembers (now (pages .exit)) c (now (map .entry)) (length (now (mem .entry))) ⌝ }
 {
-    let q = pages::seek(pages, 1, Kind::Store, n, a, c, mem, map);
+    let q = pages::seek(pages, 1, Kind::Store, n, sum::sum(a, off), c, mem, map);
     if q.found {
         let at = q.at;
         memory::store(mem, at, n, v);
@@ -229,7 +242,7 @@ pub fn act(
     map: &[u64],
     pages: &mut [u64; PAGES],
 ) -> Acted
-    requires { ⌜ (length (now mem) ≤ 2 ^ 20) × (rd < 32) × Remembers (now pages) c (now map) (length (now mem)) ⌝ }
+    requires { ⌜ (length (now mem) ≤ 2 ^ 20) × (rd < 32) × (getD (now x) 0 0 ≡ 0) × Remembers (now pages) c (now map) (length (now mem)) ⌝ }
     ensures does { λ t. ⌜ Does (t .done) (doesOf op rd a r v pc (SSP of now (w .entry)) c (now (mem .entry)) (now (map .entry))) (now (x .entry))
         (now (w .entry)) (now (mem .entry)) (t .pc) (now (x .exit)) (now (w .exit)) (now (mem .exit)) ⌝ }
     ensures stored { λ t. ⌜ Touched (t .stored) (now (mem .entry)) (now (mem .exit)) ⌝ }
@@ -237,143 +250,66 @@ pub fn act(
 {
     let b = sum::sum(r, v);
     match op {
-        Op::Add => wrote(x, rd, sum::sum(a, b), sum::sum(pc, 4)),
-        Op::Sub => wrote(x, rd, sum::difference(a, b), sum::sum(pc, 4)),
-        Op::Sll => wrote(x, rd, shift::left(a, b), sum::sum(pc, 4)),
-        Op::Slt => wrote(x, rd, one(order::signed_less(a, b)), sum::sum(pc, 4)),
-        Op::Sltu => wrote(x, rd, one(order::unsigned_less(a, b)), sum::sum(pc, 4)),
-        Op::Xor => wrote(x, rd, logic::xor(a, b), sum::sum(pc, 4)),
-        Op::Srl => wrote(x, rd, shift::right(a, b), sum::sum(pc, 4)),
-        Op::Sra => wrote(x, rd, shift::arithmetic(a, b), sum::sum(pc, 4)),
-        Op::Or => wrote(x, rd, logic::or(a, b), sum::sum(pc, 4)),
-        Op::And => wrote(x, rd, logic::and(a, b), sum::sum(pc, 4)),
-        Op::Mul => wrote(x, rd, multiply::product(a, b), sum::sum(pc, 4)),
-        Op::Mulh => wrote(x, rd, multiply::upper(true, true, a, b), sum::sum(pc, 4)),
-        Op::Mulhsu => wrote(x, rd, multiply::upper(true, false, a, b), sum::sum(pc, 4)),
-        Op::Mulhu => wrote(x, rd, multiply::upper(false, false, a, b), sum::sum(pc, 4)),
-        Op::Div => wrote(x, rd, divide::quotient(true, a, b), sum::sum(pc, 4)),
-        Op::Divu => wrote(x, rd, divide::quotient(false, a, b), sum::sum(pc, 4)),
-        Op::Rem => wrote(x, rd, divide::remainder(true, a, b), sum::sum(pc, 4)),
-        Op::Remu => wrote(x, rd, divide::remainder(false, a, b), sum::sum(pc, 4)),
-        Op::Min => wrote(x, rd, extreme::smaller(true, a, b), sum::sum(pc, 4)),
-        Op::Minu => wrote(x, rd, extreme::smaller(false, a, b), sum::sum(pc, 4)),
-        Op::Max => wrote(x, rd, extreme::larger(true, a, b), sum::sum(pc, 4)),
-        Op::Maxu => wrote(x, rd, extreme::larger(false, a, b), sum::sum(pc, 4)),
-        Op::Clz => wrote(x, rd, count::leading(a), sum::sum(pc, 4)),
-        Op::Ctz => wrote(x, rd, count::trailing(a), sum::sum(pc, 4)),
-        Op::Cpop => wrote(x, rd, count::set(a), sum::sum(pc, 4)),
-        Op::Addw => wrote(x, rd, sum::sum_word(a, b), sum::sum(pc, 4)),
-        Op::Subw => wrote(x, rd, sum::difference_word(a, b), sum::sum(pc, 4)),
-        Op::Sllw => wrote(x, rd, shift::left_word(a, b), sum::sum(pc, 4)),
-        Op::Srlw => wrote(x, rd, shift::right_word(a, b), sum::sum(pc, 4)),
-        Op::Sraw => wrote(x, rd, shift::arithmetic_word(a, b), sum::sum(pc, 4)),
-        Op::Mulw => wrote(x, rd, multiply::product_word(a, b), sum::sum(pc, 4)),
-        Op::Divw => wrote(x, rd, divide::quotient_word(true, a, b), sum::sum(pc, 4)),
-        Op::Divuw => wrote(x, rd, divide::quotient_word(false, a, b), sum::sum(pc, 4)),
-        Op::Remw => wrote(x, rd, divide::remainder_word(true, a, b), sum::sum(pc, 4)),
-        Op::Remuw => wrote(x, rd, divide::remainder_word(false, a, b), sum::sum(pc, 4)),
-        Op::Clzw => wrote(x, rd, count::leading_word(a), sum::sum(pc, 4)),
-        Op::Ctzw => wrote(x, rd, count::trailing_word(a), sum::sum(pc, 4)),
-        Op::Cpopw => wrote(x, rd, count::set_word(a), sum::sum(pc, 4)),
+        Op::Add => computed(x, rd, sum::sum(a, b), pc),
+        Op::Sub => computed(x, rd, sum::difference(a, b), pc),
+        Op::Sll => computed(x, rd, shift::left(a, b), pc),
+        Op::Slt => computed(x, rd, one(order::signed_less(a, b)), pc),
+        Op::Sltu => computed(x, rd, one(order::unsigned_less(a, b)), pc),
+        Op::Xor => computed(x, rd, logic::xor(a, b), pc),
+        Op::Srl => computed(x, rd, shift::right(a, b), pc),
+        Op::Sra => computed(x, rd, shift::arithmetic(a, b), pc),
+        Op::Or => computed(x, rd, logic::or(a, b), pc),
+        Op::And => computed(x, rd, logic::and(a, b), pc),
+        Op::Mul => computed(x, rd, multiply::product(a, b), pc),
+        Op::Mulh => computed(x, rd, multiply::upper(true, true, a, b), pc),
+        Op::Mulhsu => computed(x, rd, multiply::upper(true, false, a, b), pc),
+        Op::Mulhu => computed(x, rd, multiply::upper(false, false, a, b), pc),
+        Op::Div => computed(x, rd, divide::quotient(true, a, b), pc),
+        Op::Divu => computed(x, rd, divide::quotient(false, a, b), pc),
+        Op::Rem => computed(x, rd, divide::remainder(true, a, b), pc),
+        Op::Remu => computed(x, rd, divide::remainder(false, a, b), pc),
+        Op::Min => computed(x, rd, extreme::smaller(true, a, b), pc),
+        Op::Minu => computed(x, rd, extreme::smaller(false, a, b), pc),
+        Op::Max => computed(x, rd, extreme::larger(true, a, b), pc),
+        Op::Maxu => computed(x, rd, extreme::larger(false, a, b), pc),
+        Op::Clz => computed(x, rd, count::leading(a), pc),
+        Op::Ctz => computed(x, rd, count::trailing(a), pc),
+        Op::Cpop => computed(x, rd, count::set(a), pc),
+        Op::Addw => computed(x, rd, sum::sum_word(a, b), pc),
+        Op::Subw => computed(x, rd, sum::difference_word(a, b), pc),
+        Op::Sllw => computed(x, rd, shift::left_word(a, b), pc),
+        Op::Srlw => computed(x, rd, shift::right_word(a, b), pc),
+        Op::Sraw => computed(x, rd, shift::arithmetic_word(a, b), pc),
+        Op::Mulw => computed(x, rd, multiply::product_word(a, b), pc),
+        Op::Divw => computed(x, rd, divide::quotient_word(true, a, b), pc),
+        Op::Divuw => computed(x, rd, divide::quotient_word(false, a, b), pc),
+        Op::Remw => computed(x, rd, divide::remainder_word(true, a, b), pc),
+        Op::Remuw => computed(x, rd, divide::remainder_word(false, a, b), pc),
+        Op::Clzw => computed(x, rd, count::leading_word(a), pc),
+        Op::Ctzw => computed(x, rd, count::trailing_word(a), pc),
+        Op::Cpopw => computed(x, rd, count::set_word(a), pc),
         Op::Jal => jumped(x, rd, sum::sum(pc, 4), v, pc),
         Op::Jalr => jumped(x, rd, sum::sum(pc, 4), jump::even(sum::sum(a, v)), pc),
-        Op::Beq => branch(a == r, x, v, pc),
-        Op::Bne => branch(!(a == r), x, v, pc),
-        Op::Blt => branch(order::signed_less(a, r), x, v, pc),
-        Op::Bge => branch(!order::signed_less(a, r), x, v, pc),
-        Op::Bltu => branch(order::unsigned_less(a, r), x, v, pc),
-        Op::Bgeu => branch(!order::unsigned_less(a, r), x, v, pc),
-        Op::Lb => load(
-            Width::Byte,
-            true,
-            rd,
-            sum::sum(a, v),
-            x,
-            pc,
-            c,
-            mem,
-            map,
-            pages,
-        ),
-        Op::Lh => load(
-            Width::Half,
-            true,
-            rd,
-            sum::sum(a, v),
-            x,
-            pc,
-            c,
-            mem,
-            map,
-            pages,
-        ),
-        Op::Lw => load(
-            Width::Word,
-            true,
-            rd,
-            sum::sum(a, v),
-            x,
-            pc,
-            c,
-            mem,
-            map,
-            pages,
-        ),
-        Op::Ld => load(
-            Width::Double,
-            true,
-            rd,
-            sum::sum(a, v),
-            x,
-            pc,
-            c,
-            mem,
-            map,
-            pages,
-        ),
-        Op::Lbu => load(
-            Width::Byte,
-            false,
-            rd,
-            sum::sum(a, v),
-            x,
-            pc,
-            c,
-            mem,
-            map,
-            pages,
-        ),
-        Op::Lhu => load(
-            Width::Half,
-            false,
-            rd,
-            sum::sum(a, v),
-            x,
-            pc,
-            c,
-            mem,
-            map,
-            pages,
-        ),
-        Op::Lwu => load(
-            Width::Word,
-            false,
-            rd,
-            sum::sum(a, v),
-            x,
-            pc,
-            c,
-            mem,
-            map,
-            pages,
-        ),
-        Op::Sb => store(Width::Byte, sum::sum(a, v), r, pc, c, mem, map, pages),
-        Op::Sh => store(Width::Half, sum::sum(a, v), r, pc, c, mem, map, pages),
-        Op::Sw => store(Width::Word, sum::sum(a, v), r, pc, c, mem, map, pages),
-        Op::Sd => store(Width::Double, sum::sum(a, v), r, pc, c, mem, map, pages),
+        Op::Beq => branch(a == r, v, pc),
+        Op::Bne => branch(!(a == r), v, pc),
+        Op::Blt => branch(order::signed_less(a, r), v, pc),
+        Op::Bge => branch(!order::signed_less(a, r), v, pc),
+        Op::Bltu => branch(order::unsigned_less(a, r), v, pc),
+        Op::Bgeu => branch(!order::unsigned_less(a, r), v, pc),
+        Op::Lb => load(Width::Byte, true, rd, a, v, x, pc, c, mem, map, pages),
+        Op::Lh => load(Width::Half, true, rd, a, v, x, pc, c, mem, map, pages),
+        Op::Lw => load(Width::Word, true, rd, a, v, x, pc, c, mem, map, pages),
+        Op::Ld => load(Width::Double, true, rd, a, v, x, pc, c, mem, map, pages),
+        Op::Lbu => load(Width::Byte, false, rd, a, v, x, pc, c, mem, map, pages),
+        Op::Lhu => load(Width::Half, false, rd, a, v, x, pc, c, mem, map, pages),
+        Op::Lwu => load(Width::Word, false, rd, a, v, x, pc, c, mem, map, pages),
+        Op::Sb => store(Width::Byte, a, v, r, pc, c, mem, map, pages),
+        Op::Sh => store(Width::Half, a, v, r, pc, c, mem, map, pages),
+        Op::Sw => store(Width::Word, a, v, r, pc, c, mem, map, pages),
+        Op::Sd => store(Width::Double, a, v, r, pc, c, mem, map, pages),
         Op::Push => push(r, w, pc, c, mem, map, pages),
         Op::Pop => pop(a, w, pc, c, mem, map, pages),
-        Op::ReadSsp => wrote(x, rd, w[SSP], sum::sum(pc, 4)),
+        Op::ReadSsp => computed(x, rd, w[SSP], pc),
         Op::Left => undone(pc),
     }
 }
