@@ -39,7 +39,7 @@ ghost use Rattle.words.specs.Setting.{settingOf};
 ghost use Rattle.hart.specs.Hart.{hart};
 ghost use Rattle.hart.specs.Run.{runFrom, Midway};
 ghost use Rattle.glide.specs.Glide.{Straight, Glides};
-ghost use Rattle.fast.specs.Memo.{Read, Holds, numsWith, bytesWith, Fewer, Clear, AllClear, Emptied};
+ghost use Rattle.fast.specs.Memo.{indexAt, Read, numsWith, bytesWith, Fewer, Clear, AllClear, Emptied};
 
 // Addresses, indices and numbers of 4,096 entries.
 const NUMS: usize = 12288;
@@ -201,14 +201,23 @@ fn value(x: &[u64; 32], bytes: &[u8; BYTES], k: usize) -> u64
     x[n]
 }
 
-// A trap handler's CSR instruction, whose word stands at index `at`.
-fn handled(at: u64, mem: &[u8], x: &mut [u64; 32], w: &mut [u64; COUNT]) -> bool
-    requires { ⌜ at + 4 ≤ length (now mem) ⌝ }
+// A trap handler's CSR instruction, whose word is that of entry k. The index is read here and not in the loop, which would keep k + 4096 at hand in
+// every step (docs/SPEED.md).
+fn handled(
+    nums: &[u64; NUMS],
+    k: usize,
+    mem: &[u8],
+    x: &mut [u64; 32],
+    w: &mut [u64; COUNT],
+) -> bool
+    requires { ⌜ (k < 4096) × (indexAt (now nums) k + 4 ≤ length (now mem)) ⌝ }
     ensures { λ r. ⌜ ((pc ssp : ℕ) (s : setting.Setting) (m map : List ℕ) → s .control .mode ≡ modeOf (MODE of now (w .entry))
-        → Handles r (executeOf (decodeOf (loadOf (now (mem .entry)) at 4)) (loadOf (now (mem .entry)) at 4) (now (x .entry)) pc ssp s m map)
+        → Handles r (executeOf (decodeOf (loadOf (now (mem .entry)) (indexAt (now (nums .entry)) k) 4))
+        (loadOf (now (mem .entry)) (indexAt (now (nums .entry)) k) 4) (now (x .entry)) pc ssp s m map)
         (now (x .entry)) (now (w .entry)) (nextOf pc) (now (x .exit)) (now (w .exit))) ⌝ }
 {
-    handler::handle(memory::word(mem, at as usize), x, w)
+    let at = number(nums, k + 4096) as usize;
+    handler::handle(memory::word(mem, at), x, w)
 }
 
 // As many steps as the forms take, from `start` on.
@@ -265,7 +274,7 @@ fn steps(
             left = left - 1;
             continue;
         }
-        if handled(number(&nums, k + 4096), mem, x, w) {
+        if handled(&nums, k, mem, x, w) {
             pc = sum::sum(pc, 4);
             left = left - 1;
             continue;

@@ -189,15 +189,15 @@ loop-again c =
 
 handled-requires : tie.Need-handled-requires Inv-loop μ-loop
 handled-requires c κs =
-    let n = c .before .before .before in
-    let a = n .before .before .before .before .before in
-    rw (n .number2 .ensures, len a)
-    (reading (f (j a)) (indexAt (j a .if1 .nums) (k (j a))) (l a .loop .pc) (s (j a)) (l a .loop .mem) (map (j a)) (read (j a)) .0)
+    let a = c .before .before .before .before .before .before .before in (
+      omega arith,
+      rw (len a) (reading (f (j a)) (indexAt (j a .if1 .nums) (k (j a))) (l a .loop .pc) (s (j a)) (l a .loop .mem) (map (j a)) (read (j a)) .0),
+    )
 
 -- after a word that its form left
 module _ (h : tie.After-handled Inv-loop μ-loop) where
   abbrev e : tie.Else3 Inv-loop μ-loop
-  e = h .before .before .before .before .before .before
+  e = h .before .before .before .before .before
 
   abbrev b : tie.After-act Inv-loop μ-loop
   b = e .before .before .before
@@ -206,10 +206,10 @@ module _ (h : tie.After-handled Inv-loop μ-loop) where
   same = undone b (e .if3 .left)
 
   abbrev x'' : List ℕ
-  x'' = h .handled .last .1 .1 .0
+  x'' = h .handled .last .1 .1 .1 .0
 
   abbrev w'' : List ℕ
-  w'' = h .handled .last .1 .1 .1 .0
+  w'' = h .handled .last .1 .1 .1 .1 .0
 
   on : h .handled .result ≡ true
       → Turned true (l b .loop .pc) (l b .loop .x) (l b .loop .w) (l b .loop .mem) (map (j b)) (nextOf (l b .loop .pc)) x'' w'' (l b .loop .mem)
@@ -217,15 +217,15 @@ module _ (h : tie.After-handled Inv-loop μ-loop) where
   on =
       let i = l b .loop in
       handled-on (f (j b)) (indexAt (j b .if1 .nums) (k (j b))) (i .pc) (i .x) (i .w) (i .mem) (map (j b)) (s (j b)) (i .inv .1) (i .inv .3)
-      (i .inv .2) (read (j b)) (x' b) (w' b) (m' b) _ (same .0) (same .1) (same .2) (h .before .before .before .before .number2 .ensures)
-      (h .handled .result) x'' w'' (h .handled .ensures)
+      (i .inv .2) (read (j b)) (x' b) (w' b) (m' b) _ (same .0) (same .1) (same .2) refl (h .handled .result) x'' w''
+      (h .handled .ensures)
 
   off : h .handled .result ≡ false → (x'' ≡ l b .loop .x) × (w'' ≡ l b .loop .w)
   off =
       let i = l b .loop in
       handled-off (f (j b)) (indexAt (j b .if1 .nums) (k (j b))) (i .pc) (i .x) (i .w) (i .mem) (map (j b)) (s (j b)) (i .inv .1) (i .inv .3)
-      (i .inv .2) (read (j b)) (x' b) (w' b) (m' b) _ (same .0) (same .1) (same .2) (h .before .before .before .before .number2 .ensures)
-      (h .handled .result) x'' w'' (h .handled .ensures)
+      (i .inv .2) (read (j b)) (x' b) (w' b) (m' b) _ (same .0) (same .1) (same .2) refl (h .handled .result) x'' w''
+      (h .handled .ensures)
 
 loop-again-2 : tie.Need-loop-again-2 Inv-loop μ-loop
 loop-again-2 c =
@@ -297,8 +297,6 @@ steps-spec =
     (λ c. omega (arith, j (c .before .before .before .before .before .before) .before .loop-test .taken))
     (λ c. omega (arith, j (c .before .before .before .before .before .before) .before .loop-test .taken))
     loop-again
-    (λ c. search needs)
-    (λ c κs. search needs)
     handled-requires
     (λ c κs. search needs)
     (λ c. omega (arith, j (b (c .before .before)) .before .loop-test .taken))
