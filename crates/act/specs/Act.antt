@@ -1,7 +1,7 @@
 -- What a form leaves of memory.
 use mathlib.Core.List.{List}
 use mathlib.Core.Path.{_≡_}
-use Prim.Native.Nat.{ℕ, _-_, _/_, _<_, _≤_}
+use Prim.Native.Nat.{ℕ, _-_, _/_, _≤_}
 use lib.ListN.{length, getD}
 
 -- stored is 0, and nothing was stored; or it is one more than an index of memory, and no byte changed but among the eight around that one, which

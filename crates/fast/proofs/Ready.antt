@@ -11,7 +11,7 @@ use Rattle.word.proofs.Choices.{first}
 use Rattle.word.specs.Choice.{pick}
 use Rattle.regime.specs.declared.Setting.{Setting}
 use Rattle.form.specs.declared.Op.{Op}
-use Rattle.fast.specs.Memo.{slotOf, tagAt, indexAt, formAt, Read, Stands, Holds, numsWith, bytesWith}
+use Rattle.fast.specs.Memo.{slotOf, tagAt, indexAt, formAt, Read, Holds, numsWith, bytesWith}
 use Rattle.fast.specs.declared.Known.{Known}
 use Rattle.fast.proofs.Entries.{entered}
 

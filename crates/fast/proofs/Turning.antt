@@ -2,28 +2,28 @@
 -- Assumes nothing.
 use mathlib.Core.Bool.{Bool, true, false}
 use mathlib.Core.List.{List, [], _∷_}
-use mathlib.Core.Logic.{_⊎_, ⊎-elim}
-use mathlib.Core.Path.{_≡_, refl, sym, ap, subst, _∙_}
+use mathlib.Core.Logic.{⊎-elim}
+use mathlib.Core.Path.{_≡_, refl, sym, subst}
 use Prim.Native.Nat.{ℕ, _+_, _-_, _%_, _^_, _<_}
 use native.Mathlib.Omega.{arith}
 use lib.Dec.{eqb}
-use lib.ListN.{getD, set, length}
+use lib.ListN.{getD, set}
 use borrow.Author.Tests.{eqb-true}
 use Rattle.word.specs.Choice.{pick}
-use Rattle.isa.specs.Size.{sizeOf, widthOf}
+use Rattle.isa.specs.Size.{widthOf}
 use Rattle.isa.specs.declared.Access.{Access}
 use Rattle.isa.specs.declared.Access.the-variants as access
 use Rattle.isa.specs.declared.Width.the-variants as width
 use Rattle.decoder.specs.Decode.{decodeOf}
 use Rattle.memory.specs.Bytes.{loadOf}
-use Rattle.place.specs.Place.{base, placeOf}
+use Rattle.place.specs.Place.{base}
 use Rattle.place.specs.declared.Physical.{Physical}
 use Rattle.place.specs.declared.Place.{Place}
 use Rattle.place.specs.declared.Place.the-variants as place
 use Rattle.address.specs.declared.control.Control.{Control}
 use Rattle.effect.specs.Compute.{conditionOf}
 use Rattle.effect.specs.Jump.{evenOf, jalOf, jalrOf, branchOf}
-use Rattle.effect.specs.Register.{regOf, putOf}
+use Rattle.effect.specs.Register.{regOf}
 use Rattle.effect.specs.declared.Effect.{Effect}
 use Rattle.effect.specs.declared.Effect.the-variants as effect
 use Rattle.effect.specs.declared.Whole as kind

@@ -1,6 +1,5 @@
 -- `again` meets its contract: the fast path, or no step. Assumes nothing.
 use mathlib.Core.Path.{_≡_, refl, ap}
-use Prim.Native.Nat.{ℕ}
 use Rattle.hart.proofs.Turns.{start}
 use Rattle.fast.specs.declared.Went.{Went}
 use borrow.Author.Needs.{needs}

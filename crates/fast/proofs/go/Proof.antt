@@ -2,7 +2,6 @@
 use mathlib.Core.List.{List}
 use mathlib.Core.Path.{_≡_, refl, sym, ap, _∙_}
 use Prim.Native.Nat.{ℕ}
-use lib.ListN.{length}
 use Rattle.words.specs.Words.{_but_≔_, PC}
 use Rattle.words.specs.Setting.{settingOf}
 use Rattle.hart.specs.Hart.{hart}

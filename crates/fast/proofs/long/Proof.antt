@@ -1,6 +1,5 @@
 -- `long` meets its contract: the steps of the fast path, with the last pc stored, or none. Assumes nothing.
 use mathlib.Core.Path.{_≡_, refl, ap}
-use Prim.Native.Nat.{ℕ}
 use Rattle.hart.proofs.Turns.{start}
 use Rattle.fast.specs.declared.Went.{Went}
 use Rattle.fast.proofs.Longer.{stored, stored-setting}

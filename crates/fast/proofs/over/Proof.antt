@@ -1,5 +1,4 @@
 -- `over` meets its contract: nothing is left where it answers yes. Assumes nothing.
-use mathlib.Core.Bool.{true, false}
 use mathlib.Core.Path.{_≡_}
 use Prim.Native.Nat.{ℕ}
 use native.Mathlib.Omega.{arith}

@@ -1,29 +1,23 @@
 -- `steps` meets its contract: what is left after each step, run, gives the whole; and what is remembered stays true. Assumes nothing.
 use mathlib.Core.Bool.{true, false}
 use mathlib.Core.List.{List}
-use mathlib.Core.Logic.{_⊎_, ⊎-elim}
-use mathlib.Core.Path.{_≡_, refl, sym, subst, _∙_}
-use Prim.Native.Nat.{ℕ, _+_, _%_, _^_, _<_, _≤_}
+use mathlib.Core.Logic.{⊎-elim}
+use mathlib.Core.Path.{_≡_, refl, sym, _∙_}
+use Prim.Native.Nat.{ℕ, _%_, _^_, _≤_}
 use native.Mathlib.Omega.{arith}
 use lib.ListN.{length, length-replicate, getD}
 use borrow.Author.Needs.{needs}
-use Rattle.effect.specs.Register.{regOf}
-use Rattle.effect.specs.declared.Effect.{Effect}
-use Rattle.decoder.specs.Decode.{decodeOf}
-use Rattle.memory.specs.Bytes.{loadOf}
-use Rattle.meaning.specs.Instruction.{nextOf, executeOf}
+use Rattle.meaning.specs.Instruction.{nextOf}
 use Rattle.meaning.specs.declared.Source.the-variants.{Fetch}
 use Rattle.regime.specs.declared.Setting.{Setting}
-use Rattle.words.specs.Words.{_of_, SSP}
 use Rattle.words.specs.Setting.{settingOf}
-use Rattle.hart.specs.Run.{Run, runFrom, Midway}
+use Rattle.hart.specs.Run.{runFrom, Midway}
 use Rattle.hart.proofs.Turns.{start, again}
 use Rattle.pages.specs.Pages.{Remembers}
 use Rattle.pages.proofs.Kept.{empty}
 use Rattle.form.specs.declared.Form.{Form}
 use Rattle.form.specs.declared.Op.the-variants as op
 use Rattle.glide.specs.Glide.{hartAt, Straight, Turned}
-use Rattle.glide.proofs.Gliding.{by-handler}
 use Rattle.fast.specs.Memo.{slotOf, indexAt, formAt, Read, Holds}
 use Rattle.fast.proofs.Entries.{blank}
 use Rattle.fast.proofs.Fetched.{reading}
