@@ -11,7 +11,7 @@ use lib.Dec.{eqb}
 use lib.ListN.{getD, set, length-set}
 use lib.Seq.{getD-set-other}
 use Rattle.word.proofs.Either.{either}
-use Rattle.fast.specs.Memo.{tagAt, indexAt, flagAt, Fewer, Clear, AllClear, Emptied}
+use Rattle.fast.specs.Memo.{none, tagAt, indexAt, flagAt, Fewer, Clear, AllClear, Emptied}
 
 pub fewer-same : (nums : List ℕ) → Fewer nums nums
 fewer-same nums = (refl, λ k l. (refl, refl, inr refl))
@@ -31,31 +31,31 @@ clear-stays a b k eight l f c e =
     let (i, v, t) = f .1 k l in
     ⊎-elim (λ d. d) (λ d. d ∙ c (rw (← i) e)) t
 
--- a 1 that is stored is read, where nothing else would be
-one-there : (nums : List ℕ) (k : ℕ) → getD (set nums k 1) k 1 ≡ 1
+-- the mark that is stored is read, where nothing else would be
+one-there : (nums : List ℕ) (k : ℕ) → getD (set nums k none) k none ≡ none
 one-there [] k = refl
 one-there (x ∷ xs) zero = refl
 one-there (x ∷ xs) (suc k) = one-there xs k
 
 -- entry k emptied
 module _ (nums : List ℕ) (k : ℕ) where
-  one-tag : (j : ℕ) (t : Bool) → eqb j k ≡ t → (tagAt (set nums k 1) j ≡ 1) ⊎ (tagAt (set nums k 1) j ≡ tagAt nums j)
+  one-tag : (j : ℕ) (t : Bool) → eqb j k ≡ t → (tagAt (set nums k none) j ≡ none) ⊎ (tagAt (set nums k none) j ≡ tagAt nums j)
   one-tag j true e =
       let s : j ≡ k = eqb-true j k e in
-      inl (subst (λ (n : ℕ). getD (set nums k 1) n 1 ≡ 1) (sym s) (one-there nums k))
-  one-tag j false e = inr (getD-set-other nums k j 1 1 (eqb-false j k e))
+      inl (subst (λ (n : ℕ). getD (set nums k none) n none ≡ none) (sym s) (one-there nums k))
+  one-tag j false e = inr (getD-set-other nums k j none none (eqb-false j k e))
 
-  pub one-fewer : k < 4096 → Fewer nums (set nums k 1)
+  pub one-fewer : k < 4096 → Fewer nums (set nums k none)
   one-fewer l = (
-    length-set nums k 1,
+    length-set nums k none,
     λ j b. (
-      getD-set-other nums k (j + 4096) 1 0 (λ e. absurd (omega (arith, e, l, b))),
-      getD-set-other nums k (j + 8192) 1 0 (λ e. absurd (omega (arith, e, l, b))),
+      getD-set-other nums k (j + 4096) none 0 (λ e. absurd (omega (arith, e, l, b))),
+      getD-set-other nums k (j + 8192) none 0 (λ e. absurd (omega (arith, e, l, b))),
       one-tag j (eqb j k) refl,
     ),
   )
 
-  pub one-clear : (eight : ℕ) → Clear (set nums k 1) k eight
+  pub one-clear : (eight : ℕ) → Clear (set nums k none) k eight
   one-clear eight e = one-there nums k
 
 -- two neighbouring entries in each quarter

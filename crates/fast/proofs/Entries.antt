@@ -13,14 +13,14 @@ use Rattle.regime.specs.declared.Setting.{Setting}
 use Rattle.form.specs.declared.Form.{Form}
 use Rattle.form.specs.declared.Op.{Op}
 use Rattle.form.specs.declared.Op.the-variants.{Add}
-use Rattle.fast.specs.Memo.{slotOf, tagAt, indexAt, formAt, flagAt, Read, Stands, Holds, numsWith, bytesWith}
+use Rattle.fast.specs.Memo.{none, slotOf, tagAt, indexAt, formAt, flagAt, Read, Stands, Holds, numsWith, bytesWith}
 use Rattle.fast.proofs.Fetched.{read-as}
 
 -- at first every entry is empty
-pub blank : (bytes : List ℕ) (ops : List Op) (s : Setting) (m map : List ℕ) → Holds (replicate 12288 1) bytes ops s m map
+pub blank : (bytes : List ℕ) (ops : List Op) (s : Setting) (m map : List ℕ) → Holds (replicate 12288 none) bytes ops s m map
 blank bytes ops s m map k l n =
     let b : k < 12288 = omega (arith, l) in
-    absurd (n (getD-replicate 12288 k 1 1 b))
+    absurd (n (getD-replicate 12288 k none none b))
 
 -- three parts of 4,096 numbers, and a store at i into each
 module _ (xs : List ℕ) (i a b c : ℕ) (long : 12288 ≤ length xs) (low : i < 4096) where
@@ -127,7 +127,7 @@ module _ (nums bytes : List ℕ) (ops : List Op) (s : Setting) (m map : List ℕ
 
   -- the entry of pc
   own-tag : tagAt nums' i ≡ pc
-  own-tag = at-one nums i pc at (f .value) wide low 1
+  own-tag = at-one nums i pc at (f .value) wide low none
 
   own-index : indexAt nums' i ≡ at
   own-index = at-two nums i pc at (f .value) wide low 0
@@ -152,7 +152,7 @@ module _ (nums bytes : List ℕ) (ops : List Op) (s : Setting) (m map : List ℕ
   -- another one
   module _ (k : ℕ) (l : k < 4096) (n : k ≡ slotOf pc → ⊥) where
     tag : tagAt nums' k ≡ tagAt nums k
-    tag = as-one nums i pc at (f .value) wide low k 1 l n
+    tag = as-one nums i pc at (f .value) wide low k none l n
 
     index : indexAt nums' k ≡ indexAt nums k
     index = as-two nums i pc at (f .value) wide low k 0 l n

@@ -12,7 +12,7 @@ use Rattle.regime.specs.declared.Setting.{Setting}
 use Rattle.form.specs.declared.Form.{Form}
 use Rattle.form.specs.declared.Op.{Op}
 use Rattle.act.specs.Act.{Touched}
-use Rattle.fast.specs.Memo.{slotOf, tagAt, indexAt, formAt, Stands, Holds, Emptied}
+use Rattle.fast.specs.Memo.{none, slotOf, tagAt, indexAt, formAt, Stands, Holds, Emptied}
 use Rattle.fast.proofs.Fetched.{reading, offset, still, read-as}
 
 -- the eight bytes of a word, by its entry
@@ -29,10 +29,10 @@ word-kept m m' at stored t a n =
 module _ (nums bytes nums' : List ℕ) (ops : List Op) (s : Setting) (m m' map : List ℕ) (stored : ℕ) (t : Touched stored m m')
     (e : Emptied nums bytes stored nums') where
   -- an entry that is left has its old address
-  same-tag : (k : ℕ) → k < 4096 → (tagAt nums' k ≡ 1 → ⊥) → tagAt nums' k ≡ tagAt nums k
+  same-tag : (k : ℕ) → k < 4096 → (tagAt nums' k ≡ none → ⊥) → tagAt nums' k ≡ tagAt nums k
   same-tag k l left = ⊎-elim (λ d. absurd (left d)) (λ d. d) (e .0 .1 k l .2)
 
-  module _ (k : ℕ) (l : k < 4096) (left : tagAt nums' k ≡ 1 → ⊥) (old : Stands nums bytes ops k s m map) where
+  module _ (k : ℕ) (l : k < 4096) (left : tagAt nums' k ≡ none → ⊥) (old : Stands nums bytes ops k s m map) where
     abbrev at : ℕ
     at = indexAt nums k
 

@@ -11,7 +11,7 @@ use Rattle.word.proofs.Choices.{first}
 use Rattle.word.specs.Choice.{pick}
 use Rattle.regime.specs.declared.Setting.{Setting}
 use Rattle.form.specs.declared.Op.{Op}
-use Rattle.fast.specs.Memo.{slotOf, tagAt, indexAt, formAt, Read, Holds, numsWith, bytesWith}
+use Rattle.fast.specs.Memo.{none, slotOf, tagAt, indexAt, formAt, Read, Holds, numsWith, bytesWith}
 use Rattle.fast.specs.declared.Known.{Known}
 use Rattle.fast.proofs.Entries.{entered}
 
@@ -23,11 +23,11 @@ Ready nums bytes ops pc s m map =
 pub ready-read : (nums bytes : List ℕ) (ops : List Op) (pc : ℕ) (s : Setting) (m map : List ℕ) → pc % 4 ≡ 0 → Ready nums bytes ops pc s m map
     → Read (formAt nums bytes ops (slotOf pc)) (indexAt nums (slotOf pc)) pc s m map
 ready-read nums bytes ops pc s m map z r =
-    let stands = r .3 (slotOf pc) (omega arith) (λ e. let d : pc ≡ 1 = sym (r .2) ∙ e in omega (arith, z, d)) in
+    let stands = r .3 (slotOf pc) (omega arith) (λ e. let d : pc ≡ none = sym (r .2) ∙ e in omega (arith, z, d)) in
     subst (λ (p : ℕ). Read (formAt nums bytes ops (slotOf pc)) (indexAt nums (slotOf pc)) p s m map) (r .2) (stands .read)
 
 -- what is read within a list does not depend on what is read behind it
-within : (l : List ℕ) (k : ℕ) → k < length l → getD l k 1 ≡ getD l k 0
+within : (l : List ℕ) (k : ℕ) → k < length l → getD l k none ≡ getD l k 0
 within [] k h = absurd (omega (arith, h))
 within (x ∷ l) zero h = refl
 within (x ∷ l) (suc k) h = within l k (omega (arith, h))
@@ -43,9 +43,9 @@ is-ready nums bytes ops pc s m map nums' bytes' ops' ln lo holds tag en eb eo =
 tagged : (nums : List ℕ) (pc at value : ℕ) → length nums ≡ 12288 → tagAt (numsWith nums pc at value) (slotOf pc) ≡ pc
 tagged nums pc at value l =
     let k : ℕ = slotOf pc in
-    getD-set-other (set (set nums k pc) (k + 4096) at) (k + 8192) k value 1 (omega arith)
-    ∙ getD-set-other (set nums k pc) (k + 4096) k at 1 (omega arith)
-    ∙ getD-set-same nums k pc 1 (rw l (omega arith))
+    getD-set-other (set (set nums k pc) (k + 4096) at) (k + 8192) k value none (omega arith)
+    ∙ getD-set-other (set nums k pc) (k + 4096) k at none (omega arith)
+    ∙ getD-set-same nums k pc none (rw l (omega arith))
 
 many : (nums : List ℕ) (pc at value : ℕ) → length (numsWith nums pc at value) ≡ length nums
 many nums pc at value =

@@ -2,7 +2,7 @@
 --
 -- Below, nums holds the entries' addresses, then where their words stand in memory, then their forms' numbers, 4,096 each; bytes their forms'
 -- registers, rd, rs1 and rs2, 4,096 each, and a flag for each of the 256 frames of memory; ops their forms' operations. s is what the hart's mode and
--- CSRs say, m memory. An empty entry has address 1.
+-- CSRs say, m memory. An empty entry has the address `none`.
 use mathlib.Core.List.{List}
 use mathlib.Core.Logic.{_⊎_}
 use mathlib.Core.Path.{_≡_}
@@ -20,12 +20,16 @@ use Rattle.form.specs.declared.Form.{Form}
 use Rattle.form.specs.declared.Op.{Op}
 use Rattle.form.specs.declared.Op.the-variants.{Add}
 
+-- what an empty entry has for an address: no multiple of 4. Its bytes are alike, so that the compiler fills with them at once
+abbrev pub none : ℕ
+none = 0x0101010101010101
+
 -- the entry of an address
 abbrev pub slotOf : (pc : ℕ) → ℕ
 slotOf pc = pc / 4 % 4096
 
 abbrev pub tagAt : (nums : List ℕ) → (k : ℕ) → ℕ
-tagAt nums k = getD nums k 1
+tagAt nums k = getD nums k none
 
 abbrev pub indexAt : (nums : List ℕ) → (k : ℕ) → ℕ
 indexAt nums k = getD nums (k + 4096) 0
@@ -58,7 +62,7 @@ pub record Stands (nums bytes : List ℕ) (ops : List Op) (k : ℕ) (s : Setting
 
 -- each entry that is not empty stands
 abbrev pub Holds : (nums bytes : List ℕ) → (ops : List Op) → Setting → (m map : List ℕ) → Type 0
-Holds nums bytes ops s m map = (k : ℕ) → k < 4096 → (tagAt nums k ≡ 1 → ⊥) → Stands nums bytes ops k s m map
+Holds nums bytes ops s m map = (k : ℕ) → k < 4096 → (tagAt nums k ≡ none → ⊥) → Stands nums bytes ops k s m map
 
 -- an entry of pc that was read anew
 abbrev pub numsWith : (nums : List ℕ) → (pc at value : ℕ) → List ℕ
@@ -73,11 +77,11 @@ abbrev pub Fewer : (nums nums' : List ℕ) → Type 0
 Fewer nums nums' =
     (length nums' ≡ length nums)
     × ((k : ℕ) → k < 4096
-    → (indexAt nums' k ≡ indexAt nums k) × (getD nums' (k + 8192) 0 ≡ getD nums (k + 8192) 0) × ((tagAt nums' k ≡ 1) ⊎ (tagAt nums' k ≡ tagAt nums k)))
+    → (indexAt nums' k ≡ indexAt nums k) × (getD nums' (k + 8192) 0 ≡ getD nums (k + 8192) 0) × ((tagAt nums' k ≡ none) ⊎ (tagAt nums' k ≡ tagAt nums k)))
 
 -- entry k is empty, if its word is among the eight bytes of this number
 abbrev pub Clear : (nums : List ℕ) → (k eight : ℕ) → Type 0
-Clear nums k eight = indexAt nums k / 8 ≡ eight → tagAt nums k ≡ 1
+Clear nums k eight = indexAt nums k / 8 ≡ eight → tagAt nums k ≡ none
 
 -- the same of each entry whose offset in a page is that of the eight bytes
 abbrev pub AllClear : (nums : List ℕ) → (below eight : ℕ) → Type 0

@@ -47,8 +47,11 @@ const NUMS: usize = 12288;
 // Three registers of 4,096 entries, and a flag for each frame.
 const BYTES: usize = 12544;
 
+// The address of an empty entry, which no word has. Its bytes are alike, so that the memo is cleared by one fill.
+const EMPTY: u64 = 0x0101_0101_0101_0101;
+
 // How many steps the quick way takes before the memo is worth its clearing (docs/SPEED.md).
-const FIRST: u64 = 1024;
+const FIRST: u64 = 4096;
 
 // How many steps of the fast path are many beside its clearing.
 const FAR: u64 = 32768;
@@ -138,13 +141,13 @@ fn enter(
     e
 }
 
-// Entry k is emptied if its word is among these eight bytes. No address is 1.
+// Entry k is emptied if its word is among these eight bytes.
 fn clear(nums: &mut [u64; NUMS], k: usize, eight: u64)
     requires { ⌜ k < 4096 ⌝ }
     ensures { λ _. ⌜ Fewer (now (nums .entry)) (now (nums .exit)) × Clear (now (nums .exit)) k eight ⌝ }
 {
     if nums[k + 4096] / 8 == eight {
-        nums[k] = 1;
+        nums[k] = EMPTY;
         return;
     }
 }
@@ -235,7 +238,7 @@ fn steps(
         (now (w .exit)) (now (mem .exit)) ⌝ }
     ensures words { λ _. ⌜ settingOf (now (w .exit)) ≡ settingOf (now (w .entry)) ⌝ }
 {
-    let mut nums: [u64; NUMS] = [1; NUMS];
+    let mut nums: [u64; NUMS] = [EMPTY; NUMS];
     let mut bytes: [u8; BYTES] = [0; BYTES];
     let mut ops: [Op; 4096] = [Op::Left; 4096];
     let mut pages: [u64; PAGES] = [8; PAGES];

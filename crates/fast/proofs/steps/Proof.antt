@@ -18,7 +18,7 @@ use Rattle.pages.proofs.Kept.{empty}
 use Rattle.form.specs.declared.Form.{Form}
 use Rattle.form.specs.declared.Op.the-variants as op
 use Rattle.glide.specs.Glide.{hartAt, Straight, Turned}
-use Rattle.fast.specs.Memo.{slotOf, indexAt, formAt, Read, Holds}
+use Rattle.fast.specs.Memo.{none, slotOf, indexAt, formAt, Read, Holds}
 use Rattle.fast.proofs.Entries.{blank}
 use Rattle.fast.proofs.Fetched.{reading}
 use Rattle.fast.proofs.Kept.{kept}
@@ -44,7 +44,7 @@ loop-holds c =
       sym (s .pre .2),
       s .pre .3,
       s .pre .4,
-      length-replicate {A = ℕ} 12288 1,
+      length-replicate {A = ℕ} 12288 none,
       length-replicate 4096 op.Left,
       empty (s .args .s .control) _ _,
       blank _ _ _ _ _,
