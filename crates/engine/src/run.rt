@@ -1,6 +1,7 @@
 // A run: steps up to and including the first that traps, or until the budget is spent. A turn of the loop lets the quick way and the fast path take as
 // many steps as they do, and then takes one the slow way, by its effect.
 use address::control;
+use fast::FIRST;
 use hart::Hart;
 use hart::step;
 use meaning::Context;
@@ -63,9 +64,11 @@ pub fn run(
     let mut from = source;
     let mut left = budget;
     let mut k = known(w);
+    let mut wait = FIRST;
     while 0 < left {
-        let g = fast::go(x, w, from, k, mem, map, left);
+        let g = fast::go(x, w, from, k, mem, map, left, wait);
         left = g.left;
+        wait = g.wait;
         if left == 0 {
             return report(budget, false, 0);
         }
@@ -79,7 +82,9 @@ pub fn run(
             k = known(w);
             continue;
         }
-        left = fast::again(x, w, k.setting, mem, map, left, g.far).left;
+        let h = fast::again(x, w, k.setting, mem, map, left, wait);
+        left = h.left;
+        wait = h.wait;
     }
     report(budget, false, 0)
 }

@@ -19,7 +19,7 @@ use words::COUNT;
 use words::ELP;
 use words::PC;
 use words::sized;
-ghost use mathlib.Core.Bool.{true};
+ghost use mathlib.Core.Bool.{true, false};
 ghost use mathlib.Core.List.{List};
 ghost use mathlib.Core.Path.{_≡_};
 ghost use Prim.Native.Nat.{ℕ, _+_, _/_, _%_, _^_, _<_, _≤_};
@@ -50,8 +50,8 @@ const BYTES: usize = 12544;
 // The address of an empty entry, which no word has. Its bytes are alike, so that the memo is cleared by one fill.
 const EMPTY: u64 = 0x0101_0101_0101_0101;
 
-// How many steps the quick way takes before the memo is worth its clearing (docs/SPEED.md).
-const FIRST: u64 = 4096;
+// How many steps the quick way takes in all before the memo is worth its clearing (docs/SPEED.md).
+pub const FIRST: u64 = 4096;
 
 // How many steps of the fast path are many beside its clearing.
 const FAR: u64 = 32768;
@@ -287,16 +287,26 @@ fn steps(
     Glided { pc, left }
 }
 
-// A stretch of a run: what is left of the budget, and whether the fast path took many steps of it.
+// A stretch of a run: what is left of the budget, and how many steps the quick way is to take before the fast path is tried.
 pub struct Went {
     pub left: u64,
-    pub far: bool,
+    pub wait: u64,
 }
 
-fn ended(left: u64, far: bool) -> Went
-    ensures { λ r. ⌜ r ≡ record { left = left; far = far } ⌝ }
+fn ended(left: u64, wait: u64) -> Went
+    ensures { λ r. ⌜ r ≡ record { left = left; wait = wait } ⌝ }
 {
-    Went { left, far }
+    Went { left, wait }
+}
+
+// Where the fast path took many steps it may be tried again at once: clearing the memo is little beside them.
+fn pause(steps: u64) -> u64
+    ensures { λ r. ⌜ r ≤ 4096 ⌝ }
+{
+    if FAR < steps {
+        return 0;
+    }
+    FIRST
 }
 
 // Whether the fast path can begin: no landing pad is expected, register 0 is 0, and pc a multiple of 4.
@@ -331,19 +341,19 @@ fn long(
     if open(w[ELP], x[0], pc) {
         let g = steps(x, w, pc, s, mem, map, budget);
         w[PC] = g.pc;
-        return ended(g.left, FAR < budget - g.left);
+        return ended(g.left, pause(budget - g.left));
     }
-    ended(budget, false)
+    ended(budget, FIRST)
 }
 
-// At most FIRST.
-fn few(budget: u64) -> u64
+// The smaller of the two.
+fn few(budget: u64, wait: u64) -> u64
     ensures { λ r. ⌜ r ≤ budget ⌝ }
 {
-    if budget < FIRST {
+    if budget < wait {
         return budget;
     }
-    FIRST
+    wait
 }
 
 // Whether the quick way took all of its steps, and more are to come.
@@ -356,7 +366,27 @@ fn over(left: u64, first: u64, budget: u64) -> bool
     false
 }
 
-// Some steps the quick way, and then, if it did not have to leave one, the fast path.
+// What is left to wait after some steps. A function of its own, since nothing has to be known of it.
+fn less(wait: u64, steps: u64) -> u64
+    ensures { λ r. ⌜ r ≤ wait ⌝ }
+{
+    if steps < wait {
+        return wait - steps;
+    }
+    0
+}
+
+// Whether the next step has to go the slow way first: its word is given, a landing pad is expected, or the fast path left it.
+fn held(source: Source, elp: u64, wait: u64) -> bool
+    ensures { λ r. ⌜ (r ≡ false → (source ≡ Fetch) × (elp ≡ 0)) ⌝ }
+{
+    if wait == 0 {
+        return true;
+    }
+    glide::waits(source, elp)
+}
+
+// As many steps as are to be waited the quick way, and then, if it did not have to leave one, the fast path.
 pub fn go(
     x: &mut [u64; 32],
     w: &mut [u64; COUNT],
@@ -365,6 +395,7 @@ pub fn go(
     mem: &mut [u8],
     map: &[u64],
     budget: u64,
+    wait: u64,
 ) -> Went
     requires { ⌜ (length (now mem) ≤ 2 ^ 20) × Knows k (settingOf (now w)) ⌝ }
     ensures steps { λ r. ⌜ Midway (runFrom source budget (hart (now (x .entry)) (now (w .entry))) (now (mem .entry)) (now (map .entry))) budget
@@ -372,20 +403,20 @@ pub fn go(
     ensures setting { λ _. ⌜ settingOf (now (w .exit)) ≡ settingOf (now (w .entry)) ⌝ }
 {
     sized(*w);
-    if glide::waits(source, w[ELP]) {
-        return ended(budget, false);
+    if held(source, w[ELP], wait) {
+        return ended(budget, wait);
     }
     let pc = w[PC];
-    let first = few(budget);
+    let first = few(budget, wait);
     let g = glide::steps(x, w, pc, k, mem, map, first);
     w[PC] = g.pc;
     if over(g.left, first, budget) {
         return long(x, w, k.setting, mem, map, budget - first);
     }
-    ended(budget - (first - g.left), false)
+    ended(budget - (first - g.left), less(wait, first - g.left))
 }
 
-// After a step that the fast path left: on it again at once, if it had gone far before; clearing the memo is then little beside that.
+// After a step that went the slow way: on the fast path again at once, if nothing is to be waited.
 pub fn again(
     x: &mut [u64; 32],
     w: &mut [u64; COUNT],
@@ -393,15 +424,15 @@ pub fn again(
     mem: &mut [u8],
     map: &[u64],
     budget: u64,
-    far: bool,
+    wait: u64,
 ) -> Went
     requires { ⌜ (length (now mem) ≤ 2 ^ 20) × (s ≡ settingOf (now w)) ⌝ }
     ensures steps { λ r. ⌜ Midway (runFrom Fetch budget (hart (now (x .entry)) (now (w .entry))) (now (mem .entry)) (now (map .entry))) budget
         (r .left) Fetch (hart (now (x .exit)) (now (w .exit))) (now (mem .exit)) (now (map .entry)) ⌝ }
     ensures setting { λ _. ⌜ settingOf (now (w .exit)) ≡ settingOf (now (w .entry)) ⌝ }
 {
-    if far {
+    if wait == 0 {
         return long(x, w, s, mem, map, budget);
     }
-    ended(budget, false)
+    ended(budget, wait)
 }

@@ -25,7 +25,7 @@ steps-requires c κs =
     let i = c .before .before .before .before .before in
     let z = i .before .before .before in
     let s = z .before .before .before .before in
-    (s .pre .0, (z .sized .ensures, i .before .waits .ensures (i .if1 .left) .1), s .pre .1)
+    (s .pre .0, (z .sized .ensures, i .before .held .ensures (i .if1 .left) .1), s .pre .1)
 
 -- after the quick way
 module _ (p : tie.After-steps) where
@@ -55,7 +55,7 @@ module _ (p : tie.After-steps) where
       (p .steps .last .1 .0) m' (a .map .now) (p .steps .ensures .0)
 
   fetch : first .args .source ≡ Fetch
-  fetch = i .before .waits .ensures (i .if1 .left) .0
+  fetch = i .before .held .ensures (i .if1 .left) .0
 
 long-requires : tie.Need-long-requires
 long-requires c κs =
@@ -76,7 +76,7 @@ returns-2 c =
 
 returns-3 : tie.Need-returns-3
 returns-3 c =
-    let p = c .before .before .before .before .before .before in
+    let p = c .before .before .before .before .before .before .before .before in
     let a = first p .args in
     let e = ap (λ (r : Went). r .left) (c .ended2 .ensures) in
     rw (e, fetch p) (
@@ -105,6 +105,8 @@ go-spec =
     returns-2
     (λ c. search needs)
     (λ c. search needs)
+    (λ c. search needs)
+    (λ c κs. search needs)
     (λ c κs. search needs)
     (λ c. search needs)
     returns-3)

@@ -17,7 +17,7 @@ steps-requires c κs =
 
 returns : tie.Need-returns
 returns c =
-    let p = c .before .before .before .before in
+    let p = c .before .before .before .before .before in
     let a = p .before .before .before .before .before .before .before .before .before .before .before .before .before .args in
     let e : c .ended .result .left ≡ p .steps .result .left = ap (λ (r : Went). r .left) (c .ended .ensures) in
     rw e (
@@ -44,6 +44,7 @@ long-spec =
     steps-requires
     (λ c. search needs)
     (λ c. search needs)
+    (λ c κs. search needs)
     (λ c κs. search needs)
     (λ c. search needs)
     returns

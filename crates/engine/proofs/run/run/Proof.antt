@@ -17,11 +17,11 @@ use Rattle.engine.proofs.run.run.Tie as tie
 
 -- memory keeps its length, the setting is that of the words, and what is left, run, gives the whole
 abbrev Inv-loop : tie.InvT-loop
-Inv-loop x₀ w₀ mem₀ map budget from₀ left₀ k₀ x w mem from left k =
+Inv-loop x₀ w₀ mem₀ map budget from₀ left₀ k₀ wait₀ x w mem from left k wait =
     (length mem ≡ length mem₀) × Knows k (settingOf w) × Midway (runFrom from₀ budget (hart x₀ w₀) mem₀ map) budget left from (hart x w) mem map
 
 abbrev μ-loop : tie.MeasureT-loop
-μ-loop x₀ w₀ mem₀ map budget from₀ left₀ k₀ x w mem from left k = left
+μ-loop x₀ w₀ mem₀ map budget from₀ left₀ k₀ wait₀ x w mem from left k wait = left
 
 loop-holds : tie.Need-loop-holds Inv-loop μ-loop
 loop-holds c = (refl, c .known .ensures, start _ _ _ _ _)
