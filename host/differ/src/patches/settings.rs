@@ -76,9 +76,11 @@ impl Writer<'_> {
     /// Turns them and turns them back. Between the two memory may be out of reach, or another: sometimes an access made before is made again.
     fn turn_and_back(&mut self, csr: u64, bits: u64) {
         let glance = self.random.chance(50).then(|| self.glance());
+        self.warm();
         self.words.extend(glance);
         self.turn(csr, bits);
         let before = std::mem::replace(&mut self.plain, true);
+        self.warm();
         let words = 1 + self.random.below(6);
         self.filler(words);
         self.words.extend(glance);
