@@ -7,7 +7,7 @@
 //! For request A13 `hidden` makes pairs of memories that differ where a user's program may not reach, `twins` looks whether
 //! anything of it shows, and `seen` counts what the pairs were. For request A7 `hex` holds the readers of Intel HEX against each other.
 //! For request A1 `eights` sends words and instructions as eight numbers through a read and a write.
-//! `patches` makes programs that patch themselves, for a run that remembers what it has decoded.
+//! `patches` makes programs that patch themselves, for a run that remembers what it has decoded; `ways` says which way such a run takes a step.
 
 pub mod added;
 pub mod again;
@@ -41,4 +41,5 @@ pub mod steps;
 pub mod text;
 pub mod twins;
 pub mod visit;
+pub mod ways;
 pub mod world;

@@ -33,7 +33,8 @@ entry with U names: on each simulator the calls must answer alike with both, up 
 leave the named frames alike and the other ones as they were. Beside that the two simulators must agree on each memory.
 
 A patch is a program that stores over its own code, by stores, pushes and swaps, and runs what it stored; it is for a run
-that remembers what it has decoded. A run of it and the same run in two parts must end alike, on both simulators.
+that remembers what it has decoded, after its first 1,024 steps: half of the programs patch themselves behind these. A run of
+it and the same run in two parts must end alike, on both simulators.
 
 A text (request A7) is good, damaged in one of the ways that the request names, or changed at random; the two readers must
 answer alike and leave the same bytes, and those for which a good or damaged text was made.
@@ -45,7 +46,7 @@ A difference is printed with the words and bytes that differ and the command tha
 written to target/differ/ (an eight's numbers stand in its line). After 5 differences the command ends.
 Exit status: 0 no difference, 1 a difference (for test also: a kind of case or text that was not seen, under 60 % of the
 pairs of three completed steps and more with a load and a store that reached memory, under 85 % of the patches with a
-patched word that was run, under 40 % of the texts loaded, or under 35 % of the eights written or refused),
+patched word that was run, under 35 % with one that was so on the fast path, under 40 % of the texts loaded, or under 35 % of the eights written or refused),
 2 wrong usage.
 ";
 

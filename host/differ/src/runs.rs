@@ -7,8 +7,9 @@ use crate::program::{handler, program};
 use crate::random::Random;
 use crate::refuse;
 use crate::state::{keepers, lifting, registers, settings, View, LIFTED, LPE, SSE, SV39};
+use crate::ways::FIRST;
 use crate::world::{lengthen, write_map, Role, Wish, World, ENTRIES};
-use formats::{MRET, SRET};
+use formats::*;
 use sporhulma::word::*;
 
 /// Keeps the streams of runs apart from those of steps.
@@ -22,6 +23,10 @@ const S_HANDLER: u64 = PAGE / 2;
 
 /// A run's calls: the first, and after each trap another one that goes on in the handler.
 pub const CHAIN: u64 = 8;
+
+/// Of a hundred runs so many start with a loop; its counter.
+const LATE: u64 = 8;
+const COUNTER: u32 = 9;
 
 /// The largest budget, but for the runs that try the largest that is accepted.
 const MOST: u64 = 2000;
@@ -144,6 +149,21 @@ pub fn write_handlers(maker: &mut Maker) {
     }
 }
 
+/// Words behind a loop of so many steps that the run has changed to its fast path (ways.rs), and a budget to reach them.
+fn behind_a_loop(maker: &mut Maker, words: Vec<u32>) -> Vec<u32> {
+    let turns = FIRST / 2 + maker.random.below(8);
+    if let Call::Run(budget) = maker.case.call {
+        maker.case.call = Call::Run(budget + 2 * turns);
+    }
+    let mut all = vec![
+        i(OP_IMM, 0, COUNTER, 0, turns),
+        i(OP_IMM, 0, COUNTER, COUNTER, u64::MAX),
+        b(1, COUNTER, 0, -4_i64 as u64),
+    ];
+    all.extend(words);
+    all
+}
+
 /// Writes a program, or seldom a row of words that know nothing of each other, and points pc at it.
 fn write_program(maker: &mut Maker) -> u64 {
     let words = if maker.random.chance(15) {
@@ -153,6 +173,10 @@ fn write_program(maker: &mut Maker) -> u64 {
     };
     let start = maker.random.pick(&[0, 64, 1024]);
     let place = maker.world.offset(Role::Code, start);
+    let words = match maker.random.chance(LATE) {
+        true => behind_a_loop(maker, words),
+        false => words,
+    };
     write(maker.case, place, &words);
     maker.case.hart.rest[PC] = maker.world.at(Role::Code, maker.view.fetch_sv39, start);
     place

@@ -228,7 +228,7 @@ mod tests {
         let patched = patches::seen::Seen::default().complaints();
         assert_eq!(
             patched.len(),
-            7 + 3 + 9 + 3 + 2 + 4 + 1 + 8 + 19 + 1 + 36 + 2
+            7 + 3 + 9 + 3 + 2 + 4 + 1 + 20 + 8 + 19 + 1 + 36 + 101 + 3
         );
     }
 }

@@ -1,10 +1,11 @@
 //! Program `number` of a seed that patches itself, with its state and its calls, made without the programs before it.
 
+use super::late::CROWDED;
 use super::pages::{spoil, Pages, CODE, CONSTANTS as CONSTANT, FRAMES};
 use super::plan::{Kind, Plan};
 use super::words::twin;
 use super::writer::{Writer, AGAIN, CONSTANTS, OPEN, STACK};
-use crate::case::{Case, PAGE};
+use crate::case::{Case, BASE, PAGE};
 use crate::maker::Maker;
 use crate::program::TABLE;
 use crate::random::Random;
@@ -20,6 +21,15 @@ const KIND: u64 = 5;
 pub const AROUND: [u64; 18] = [
     60, 61, 62, 63, 64, 65, 66, 67, 68, 69, 70, 510, 511, 512, 513, 514, 515, 516,
 ];
+
+/// The budgets around the change to the fast path, each asked for in whole runs, and those around the steps of it that are many.
+pub const SWEPT: std::ops::RangeInclusive<u64> = 1000..=1100;
+const MANY: [u64; 12] = [
+    32_767, 32_768, 32_769, 32_770, 33_791, 33_792, 33_793, 33_794, 33_795, 33_900, 34_000, 34_500,
+];
+
+/// Of so many programs one is run by the first of these budgets, one by the others.
+const SWEEPS: u64 = 256;
 
 /// The largest budget, but for code that is larger than what is remembered and has to be passed twice.
 const MOST: u64 = 2000;
@@ -42,7 +52,11 @@ impl Default for Made {
 /// Makes program `number` of `seed` in `made` (its buffers are used again).
 pub fn make(seed: u64, number: u64, made: &mut Made) {
     let random = &mut Random::of(seed, KIND, number);
-    let plan = Plan::random(random);
+    let plan = match number % SWEEPS {
+        128 => Plan::random(random).swept(false),
+        129 => Plan::random(random).swept(true),
+        _ => Plan::random(random),
+    };
     let pages = Pages::random(random, &plan);
     let case = &mut made.case;
     case.fill(FRAMES * PAGE as usize, random.word(), random.word());
@@ -65,7 +79,7 @@ pub fn make(seed: u64, number: u64, made: &mut Made) {
     if plan.twin {
         pages.copy_code(maker.case, twin);
     }
-    made.calls = calls(maker.random, number, plan.long);
+    made.calls = calls(maker.random, number, &plan);
 }
 
 /// The pointers into the pages, where masking is the same all along with upper bits that it changes.
@@ -84,6 +98,20 @@ fn point(maker: &mut Maker, pages: &Pages, plan: &Plan) {
     ];
     let stack = middle(Role::Shadow);
     for (register, plain) in pointers {
+        let pointer = tagged(maker.random, plain, masked);
+        maker.case.set(register, pointer);
+    }
+    let end = BASE + maker.case.mem.len() as u64;
+    let crowd = match plan.kind {
+        Kind::Physical | Kind::Turning => [
+            middle(Role::Data),
+            middle(CONSTANT),
+            middle(Role::Data),
+            end,
+        ],
+        _ => pages.crowd().map(|number| address(number) + PAGE / 2),
+    };
+    for (register, plain) in CROWDED.into_iter().zip(crowd) {
         let pointer = tagged(maker.random, plain, masked);
         maker.case.set(register, pointer);
     }
@@ -115,6 +143,7 @@ fn write_program(maker: &mut Maker, pages: &Pages, plan: Plan) {
         constants: Vec::new(),
         plain: false,
         turns: 0,
+        far: plan.far,
     };
     writer.program();
     assert!(writer.here() <= writer.limit(), "the code has its pages");
@@ -141,13 +170,27 @@ fn start(random: &mut Random, plan: &Plan) -> u64 {
 }
 
 /// One to four calls, last one first. Every fourth program starts with a budget around the change of ways.
-fn calls(random: &mut Random, number: u64, long: bool) -> Vec<[u64; 2]> {
+fn calls(random: &mut Random, number: u64, plan: &Plan) -> Vec<[u64; 2]> {
+    if let 128 | 129 = number % SWEEPS {
+        let budgets: Vec<u64> = match plan.far {
+            true => MANY.into(),
+            false => SWEPT.rev().collect(),
+        };
+        let parted = |budget| {
+            let first = random.below(budget + 1);
+            [first, budget - first]
+        };
+        return budgets.into_iter().map(parted).collect();
+    }
     let count = 1 + random.below(4);
     let mut calls = Vec::new();
     for at in 0..count {
         let budget = match random.below(4) {
             _ if at == 0 && number % 4 == 0 => AROUND[(number / 4) as usize % AROUND.len()],
-            _ if long => MOST + random.below(3000),
+            _ if plan.far => 34_000 + random.below(3000),
+            _ if plan.long && plan.late => 9_500 + random.below(3000),
+            _ if plan.late => 1500 + random.below(4500),
+            _ if plan.long => MOST + random.below(3000),
             0 => 1 + random.below(MOST),
             _ => MOST / 2 + random.below(MOST / 2 + 1),
         };

@@ -2,10 +2,12 @@
 //! wrong, and these programs are to find one that does not.
 //!
 //! `plan` says how a program runs, `pages` has its memory and map; `writer` lays its words out, with the patches of `sites` and `twice`, the
-//! changes of `settings` and the words of `words`; `make` puts a case together. `check` gives each call to both simulators whole and in two
+//! changes of `settings` and the words of `words`, and in half of the programs with what `late` has for the fast path of a run, which begins
+//! after 1,024 steps; `make` puts a case together. `check` gives each call to both simulators whole and in two
 //! parts, `store` says what a step wrote, and `seen` counts which patches came to be run.
 
 pub mod check;
+mod late;
 pub mod make;
 mod pages;
 mod plan;

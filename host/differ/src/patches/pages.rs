@@ -1,4 +1,4 @@
-//! The pages of a program that patches itself. Its code has three frames, and under Sv39 each of them has four names: that of the code, a second
+//! The pages of a program that patches itself. Its code has six frames, and under Sv39 each of them has four names: that of the code, a second
 //! one from which it is run too, one to read and write it by, and one as a page of the shadow stack.
 
 use super::plan::{Kind, Plan};
@@ -6,8 +6,8 @@ use crate::case::{Case, BASE, PAGE};
 use crate::random::Random;
 use crate::world::*;
 
-/// So many pages of code, one behind the other.
-pub const CODE: usize = 3;
+/// So many pages of code, one behind the other: more than the 16 KiB that a run may remember words of.
+pub const CODE: usize = 6;
 
 /// The frames of memory: the code's, as many for another code, and those of the handlers, data, shadow stack and constants.
 pub const FRAMES: usize = 2 * CODE + SINGLES;
@@ -16,9 +16,15 @@ const SINGLES: usize = 4;
 /// The constants' page is the one that is only read.
 pub const CONSTANTS: Role = Role::ReadOnly;
 
-/// The code's names are in groups of four page numbers, so that behind each there is no page; the pages that stand alone are a group too.
-const GROUP: u64 = 4;
+/// The code's names are in groups of eight or nine page numbers, so that behind each there is no page; the pages that stand alone are a group too.
+/// By nines the names of a word have different places in a memo of four pages' words, and by eights the same.
+const GROUP: u64 = 9;
 const GROUPS: u64 = 5;
+
+/// So many page numbers are between two pages of data that a run remembers at the same place.
+const APART: u64 = 64;
+/// The crowd: pages of data so far apart from the first one, the last of which is outside memory.
+pub const CROWD: usize = 4;
 
 pub struct Pages {
     pub world: World,
@@ -69,12 +75,18 @@ impl Pages {
         for page in &mut self.world.pages {
             page.number = BASE / PAGE + page.place;
         }
-        [self.again, self.open, self.stack] = [0x40000, 0x40004, 0x40008];
+        [self.again, self.open, self.stack] = [0x40000, 0x40008, 0x40010];
     }
 
     /// The place in memory of an offset in the code.
     pub fn place(&self, offset: u64) -> u64 {
         self.frames[(offset / PAGE) as usize] * PAGE + offset % PAGE
+    }
+
+    /// The page numbers of the crowd: the same data again, the constants to be written, the data to be read alone, and a page outside memory.
+    pub fn crowd(&self) -> [u64; CROWD] {
+        let data = self.world.pages[Role::Data as usize].number;
+        std::array::from_fn(|at| (data + APART * (at as u64 + 1)) % NUMBERS)
     }
 
     pub fn write_map(&self, random: &mut Random, plan: &Plan, case: &mut Case) {
@@ -102,6 +114,17 @@ impl Pages {
         ] {
             let place = self.world.pages[role as usize].place;
             entries.push((number(role), rights, user, place));
+        }
+        let (data, constants) = (Role::Data as usize, CONSTANTS as usize);
+        let [data, constants] = [data, constants].map(|role| self.world.pages[role].place);
+        let crowd = [
+            (R | W, data),
+            (R | W | X, constants),
+            (R, data),
+            (R | W, FRAMES as u64),
+        ];
+        for (number, (rights, place)) in self.crowd().into_iter().zip(crowd) {
+            entries.push((number, rights, user, place));
         }
         entries.sort_unstable();
         case.map.clear();
@@ -159,6 +182,7 @@ fn places(random: &mut Random, in_a_row: bool) -> Vec<u64> {
 
 /// The first page numbers of the groups, near an edge of the address space, where memory has its own addresses, or anywhere.
 fn groups(random: &mut Random) -> [u64; GROUPS as usize] {
+    let group = random.pick(&[GROUP - 1, GROUP]);
     let room = NUMBERS - GROUP * GROUPS;
     let half = NUMBERS / 2;
     let any = random.below(room);
@@ -173,7 +197,7 @@ fn groups(random: &mut Random) -> [u64; GROUPS as usize] {
         any,
     ]);
     let turn = random.below(GROUPS);
-    std::array::from_fn(|group| first + GROUP * ((group as u64 + turn) % GROUPS))
+    std::array::from_fn(|at| first + group * ((at as u64 + turn) % GROUPS))
 }
 
 #[cfg(test)]
@@ -191,7 +215,7 @@ mod tests {
             let pages = Pages::random(random, &plan);
             pages.write_map(random, &plan, &mut case);
             let numbers: Vec<u64> = case.map.iter().step_by(2).copied().collect();
-            assert_eq!(numbers.len(), 4 * CODE + SINGLES);
+            assert_eq!(numbers.len(), 4 * CODE + SINGLES + CROWD);
             assert!(numbers.windows(2).all(|two| two[0] < two[1]), "{numbers:?}");
             let code = pages.world.pages[Role::Code as usize].number;
             for first in [code, pages.again, pages.open, pages.stack] {

@@ -30,10 +30,16 @@ pub struct Plan {
     pub twin: bool,
     /// Whether some of the words that are patched in are illegal, or anything.
     pub wild: bool,
-    /// Whether the code is larger than 1,024 words.
+    /// Whether the code is larger than 1,024 words, and where it is late than 4,096.
     pub long: bool,
+    /// Whether each patch comes behind a loop of some 1,024 steps that the quick way takes, and leaves out what would end the fast path.
+    pub late: bool,
+    /// Whether one of these loops is far longer.
+    pub far: bool,
     /// Whether the data are in a page of the code.
     pub shared: bool,
+    /// Whether there are words that are to trap.
+    pub traps: bool,
 }
 
 impl Plan {
@@ -45,6 +51,7 @@ impl Plan {
         ]);
         let descends = matches!(kind, Moved | Supervisor) && random.chance(30);
         let long = !descends && random.chance(10);
+        let late = random.chance(55);
         Plan {
             kind,
             below: u64::from(kind == Moved && random.chance(25)),
@@ -53,7 +60,22 @@ impl Plan {
             twin: kind == Turning && random.chance(60),
             wild: random.chance(20),
             long,
+            late,
+            far: late && !long && random.chance(4),
             shared: !long && kind != Turning && random.chance(15),
+            traps: true,
+        }
+    }
+
+    /// The same for calls of given budgets, which are to be spent: late, and with no word that traps.
+    pub fn swept(self, far: bool) -> Plan {
+        Plan {
+            wild: false,
+            long: false,
+            late: true,
+            far,
+            traps: false,
+            ..self
         }
     }
 

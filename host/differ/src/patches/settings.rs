@@ -76,9 +76,11 @@ impl Writer<'_> {
     /// Turns them and turns them back. Between the two memory may be out of reach, or another: sometimes an access made before is made again.
     fn turn_and_back(&mut self, csr: u64, bits: u64) {
         let glance = self.random.chance(50).then(|| self.glance());
+        self.warm();
         self.words.extend(glance);
         self.turn(csr, bits);
         let before = std::mem::replace(&mut self.plain, true);
+        self.warm();
         let words = 1 + self.random.below(6);
         self.filler(words);
         self.words.extend(glance);
@@ -109,20 +111,19 @@ impl Writer<'_> {
         let below = if moved { self.plan.below << 11 } else { 0 };
         let constants = [self.constant(TURNED, field), self.constant(BITS, below)];
         self.words.extend(constants);
-        self.words.extend([
-            u(AUIPC, VALUE, 0),
-            i(OP_IMM, 0, VALUE, VALUE, 20),
-            i(SYSTEM, 1, 0, VALUE, epc),
-            i(SYSTEM, 2, 0, TURNED, status),
-            back,
-            i(SYSTEM, 2, 0, BITS, status),
-        ]);
+        let at = self.reserve(2);
+        self.words
+            .extend([i(SYSTEM, 1, 0, VALUE, epc), i(SYSTEM, 2, 0, TURNED, status)]);
+        self.warm();
+        self.words.push(back);
+        let behind = self.here() - self.offset(at);
+        self.words[at] = u(AUIPC, VALUE, 0);
+        self.words[at + 1] = i(OP_IMM, 0, VALUE, VALUE, behind);
+        self.words.push(i(SYSTEM, 2, 0, BITS, status));
     }
 
     /// Goes down to where the plan says, by the name that the code has there.
     pub fn descend(&mut self) {
-        const WORDS: u64 = 5;
-        let target = self.here() + 4 * WORDS;
         let by_mret = self.mode == 3;
         let (epc, status, back, base) = match by_mret {
             true => (MEPC, MSTATUS, MRET, self.code),
@@ -130,15 +131,16 @@ impl Writer<'_> {
         };
         // MPP is what it should be, SPP may not.
         let field = if by_mret { 0 } else { 0x100 };
-        let address = self.constant(VALUE, base.wrapping_add(target));
+        let at = self.reserve(1);
         let field = self.constant(TURNED, field);
         self.words.extend([
-            address,
             field,
             i(SYSTEM, 1, 0, VALUE, epc),
             i(SYSTEM, 3, 0, TURNED, status),
-            back,
         ]);
+        self.warm();
+        self.words.push(back);
+        self.words[at] = self.constant(VALUE, base.wrapping_add(self.here()));
         self.mode = self.plan.below;
         self.alone = !by_mret;
     }

@@ -55,6 +55,8 @@ pub struct Patch {
     link: u32,
     /// Whether MPRV has to be turned on for it.
     moved: bool,
+    /// Whether a push finds ssp where it should be, and a pop-check brings it back: a write of ssp would end the fast path.
+    late: bool,
 }
 
 /// The offset in the code of the bytes that a patch stores, and what it turns in them.
@@ -98,15 +100,18 @@ impl Patch {
                 let store = s(STORE, funct3, ADDRESS, VALUE, offset);
                 vec![load(funct3), turned, store]
             }
-            By::Push => {
-                let point = i(SYSTEM, 1, 0, ADDRESS, SSP);
-                vec![load(3), turned, point, push(self.link)]
-            }
+            By::Push if self.late => vec![load(3), turned, push(self.link)],
+            By::Push => vec![load(3), turned, self.point(), push(self.link)],
             By::Swap(funct3) => {
                 let swap = r(AMO, funct3, 0x24, VALUE, ADDRESS, VALUE);
                 vec![load(funct3), turned, swap]
             }
         }
+    }
+
+    /// The word that points ssp behind the bytes that a push stores.
+    fn point(&self) -> u32 {
+        i(SYSTEM, 1, 0, ADDRESS, SSP)
     }
 
     fn is_double(&self) -> bool {
@@ -121,9 +126,17 @@ impl Patch {
     /// The word that turns MPRV off, or gives ssp back what it was.
     fn end(&self) -> Option<u32> {
         match self.by {
+            By::Push if self.late => Some(pop_check(self.link)),
             By::Push => Some(i(SYSTEM, 1, 0, KEPT, SSP)),
             _ => self.moved.then(|| i(SYSTEM, 3, 0, BITS, MSTATUS)),
         }
+    }
+}
+
+impl Patch {
+    /// The word behind all rounds of it, which gives ssp back what it was where a round does not.
+    pub fn over(&self) -> Option<u32> {
+        (self.late && self.by == By::Push).then(|| i(SYSTEM, 1, 0, KEPT, SSP))
     }
 }
 
@@ -135,15 +148,19 @@ impl Writer<'_> {
     pub fn drawn(&mut self) -> Patch {
         let kind = self.plan.kind;
         let physical = kind == Kind::Physical;
+        let late = self.plan.late;
         let others = kind != Kind::Turning;
+        // A swap goes the slow way, and behind it the fast path begins anew.
+        let swaps = others && (!late || self.random.chance(20));
         let fits = |by| match by {
             By::Store(_) => true,
             By::Push => others && self.mode < 3,
-            By::Swap(_) => others,
+            By::Swap(_) => swaps,
         };
         let all: Vec<By> = ALL.into_iter().filter(|by| fits(*by)).collect();
         let by = self.random.pick(&all);
         let name = match by {
+            By::Store(_) if physical && late => Name::Own,
             By::Store(_) if self.has_own() && (!others || self.random.chance(60)) => Name::Own,
             By::Store(_) => Name::Open,
             _ => Name::Stack,
@@ -159,6 +176,7 @@ impl Writer<'_> {
             shift,
             link: self.random.pick(&[1, 5]),
             moved: physical && name != Name::Own,
+            late,
         }
     }
 
@@ -206,8 +224,10 @@ impl Writer<'_> {
     fn patched(&mut self, place: Place, times: u64) {
         let patch = self.drawn();
         let setup = self.reserve(Self::SETUP);
+        self.warm();
         let before = std::mem::replace(&mut self.plain, patch.moved);
         let site = self.repeated(INNER, times, |writer| writer.once(&patch, place));
+        self.words.extend(patch.over());
         self.plain = before;
         self.set_up(setup, &patch, &site);
     }
@@ -220,6 +240,9 @@ impl Writer<'_> {
         self.words[at + 3] = self.constant(TURNED, site.turned);
         if patch.by == By::Push {
             self.words[at + 4] = i(SYSTEM, 2, KEPT, 0, SSP);
+            if patch.late {
+                self.words[at + 5] = patch.point();
+            }
         }
         if patch.moved {
             self.words[at + 5] = self.constant(BITS, MPRV);
@@ -383,6 +406,7 @@ impl Writer<'_> {
             Name::Open
         };
         let setup = self.reserve(5);
+        self.warm();
         let offset = self.repeated(INNER, times, |writer| {
             writer.filler(1);
             let offset = writer.here();

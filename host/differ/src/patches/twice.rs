@@ -14,13 +14,17 @@ impl Writer<'_> {
         let patch = self.drawn_for_calls();
         let setup = self.reserve(Self::SETUP);
         let far = self.reserve(3);
+        self.warm();
         let times = self.times();
+        let first = self.here();
         let calls = self.repeated(INNER, times, |writer| {
             let before = writer.both();
             writer.stored(&patch);
             [before, writer.both()]
         });
+        self.words.extend(patch.over());
         let over = self.reserve(1);
+        self.apart(first);
         let function = self.here();
         self.filler(2);
         let site = self.site(&patch);
@@ -54,6 +58,7 @@ impl Writer<'_> {
         let label = 1 + self.random.below(255) as u8;
         let wrong = u32::from(self.random.chance(15));
         let far = self.reserve(3);
+        self.warm();
         let times = self.times();
         self.repeated(INNER, times, |writer| {
             writer
@@ -63,6 +68,7 @@ impl Writer<'_> {
             writer.stored(&patch);
             writer.words.push(i(JALR, 0, RA, TO_A_PAD, 0));
         });
+        self.words.extend(patch.over());
         let over = self.reserve(1);
         let site = self.pad(&patch, label);
         let function = site.word();

@@ -10,7 +10,7 @@ use formats::extensions::{drawn, ABSENT};
 use formats::*;
 
 /// The register that takes up.
-const SUM: u32 = 28;
+pub const SUM: u32 = 28;
 
 pub const NOP: u32 = 0x13;
 
@@ -25,6 +25,8 @@ pub struct Taste {
     pub wild: bool,
     /// Loads and stores in the upper half of the data page alone: code is in the lower one.
     pub upper: bool,
+    /// No pushes, which would use their page up, and nothing that the fast path leaves to the slow way.
+    pub late: bool,
     /// The mode that they are run in.
     pub mode: u64,
 }
@@ -73,9 +75,9 @@ pub fn tame(random: &mut Random, taste: Taste) -> u32 {
         22 if taste.skips => b(random.pick(&[0, 1, 4, 5, 6, 7]), rs1, rs2, 8),
         23 | 24 if !taste.plain => load(random, taste, rd),
         25 | 26 if !taste.plain => store(random, taste, rs1),
-        27 if taste.mode == 0 => i(SYSTEM, 2, rd, 0, SSP),
-        27 => i(SYSTEM, random.pick(&[1, 2, 3]), rd, rs1, SSCRATCH),
-        28 if !taste.plain && word & 3 == 0 => push(random.pick(&[1, 5])),
+        27 if taste.mode == 0 && !taste.late => i(SYSTEM, 2, rd, 0, SSP),
+        27 if taste.mode > 0 => i(SYSTEM, random.pick(&[1, 2, 3]), rd, rs1, SSCRATCH),
+        28 if !taste.plain && !taste.late && word & 3 == 0 => push(random.pick(&[1, 5])),
         _ => i(OP_IMM, 0, SUM, SUM, word >> 52),
     }
 }
@@ -108,9 +110,9 @@ fn is_tame(word: u32, taste: Taste) -> bool {
     let csr = u64::from(word >> 20);
     match second::family(word) {
         1 | 2 | 8..=12 | 18 | 22 | 23 => quiet,
-        17 if csr == SSP => quiet && word >> 12 & 0xFF == 2,
+        17 if csr == SSP => quiet && !taste.late && word >> 12 & 0xFF == 2,
         17 => quiet && taste.mode > 0 && csr == SSCRATCH,
-        19 => !taste.plain,
+        19 => !taste.plain && !taste.late,
         3 => quiet && (word == j(rd, 4) || taste.skips && word == j(rd, 8)),
         5 => taste.skips && word & 0xFE00_0F80 == b(0, 0, 0, 8) & 0xFE00_0F80,
         6 => quiet && table && (word >> 20) % width == 0,
@@ -171,6 +173,7 @@ mod tests {
         skips: true,
         wild: false,
         upper: false,
+        late: false,
         mode: 0,
     };
 
@@ -179,11 +182,17 @@ mod tests {
         let mut random = Random::of(1, 0, 0);
         let mut families = BTreeSet::new();
         for (skips, mode) in [(false, 0), (false, 3), (true, 0), (true, 1)] {
-            for (plain, upper) in [(false, false), (false, true), (true, false)] {
+            for (plain, upper, late) in [
+                (false, false, false),
+                (false, true, false),
+                (true, false, false),
+                (false, false, true),
+            ] {
                 let taste = Taste {
                     plain,
                     skips,
                     upper,
+                    late,
                     mode,
                     ..ALL
                 };

@@ -54,6 +54,8 @@ pub struct Writer<'a> {
     pub plain: bool,
     /// How often satp has turned.
     pub turns: u64,
+    /// Whether the loop that is far longer than the others is still to come.
+    pub far: bool,
 }
 
 impl Writer<'_> {
@@ -93,6 +95,7 @@ impl Writer<'_> {
             skips: false,
             wild: self.plan.wild,
             upper: self.plan.shared,
+            late: self.plan.late,
             mode: self.mode,
         }
     }
@@ -170,7 +173,12 @@ impl Writer<'_> {
     pub fn times(&mut self) -> u64 {
         let few: &[u64] = &[1, 1, 1, 2];
         let many: &[u64] = &[1, 1, 2, 3, 4, 6, 9];
-        self.random.pick(if self.plan.long { few } else { many })
+        let more: &[u64] = &[2, 3, 4, 5, 7, 10, 14];
+        self.random.pick(match (self.plan.long, self.plan.late) {
+            (true, _) => few,
+            (_, true) => more,
+            _ => many,
+        })
     }
 
     /// The whole program. It ends with a jump to its start, or to where it has gone down to, sometimes behind an ECALL.
@@ -184,13 +192,16 @@ impl Writer<'_> {
         if self.plan.long {
             self.straight();
         }
-        let units = 1 + self.random.below(5);
+        let units = match self.plan.late {
+            true => 1 + self.random.below(3),
+            false => 1 + self.random.below(5),
+        };
         self.part(units);
         // Turned once more, so that each word is run with Sv39 and without.
         if self.plan.kind == Kind::Turning && self.turns % 2 == 0 && self.random.chance(80) {
             self.turn_satp();
         }
-        if self.random.chance(15) {
+        if self.plan.traps && self.random.chance(15) {
             self.words.push(ECALL);
         }
         let back = start.wrapping_sub(self.here());
@@ -208,10 +219,12 @@ impl Writer<'_> {
 
     fn unit(&mut self) {
         match self.random.below(32) {
+            15..=18 if self.plan.late => self.crowd(),
+            19 | 20 if self.plan.late && self.plan.traps => self.fault(),
             0..=5 if self.mode > 0 => self.setting(),
             4..=8 if self.paged() && !self.alone => self.twice(),
             4..=12 if self.plan.kind == Kind::Turning => self.setting(),
-            9 if !self.plan.shared => self.block(),
+            9 if !self.plan.shared && self.plan.traps => self.block(),
             10 => {
                 let words = self.random.below(40);
                 self.filler(words);
@@ -223,6 +236,7 @@ impl Writer<'_> {
 
     /// What other runs are made of: calls with pushes and pop-checks, loops, and seldom a trap.
     fn block(&mut self) {
+        self.warm();
         let mut program = Program {
             random: self.random,
             mode: self.mode,
@@ -235,11 +249,19 @@ impl Writer<'_> {
         }
     }
 
-    /// More than 1,024 words straight on, and in them a word that was patched before them.
+    /// More than 1,024 words straight on, or 4,096, and in them a word that was patched before them. Those of 4,096 are passed at least twice in a
+    /// row, so that each word has had its entry taken by another one.
     fn straight(&mut self) {
         let (before, behind) = (self.random.below(900), self.random.below(100));
-        self.far(before);
-        self.filler(1024 - before + behind);
+        if self.plan.late {
+            self.repeated(OUTER, 2, |writer| {
+                writer.far(before);
+                writer.filler(4096 - before + behind);
+            });
+        } else {
+            self.far(before);
+            self.filler(1024 - before + behind);
+        }
     }
 }
 
