@@ -51,7 +51,7 @@ const BYTES: usize = 12544;
 const EMPTY: u64 = 0x0101_0101_0101_0101;
 
 // How many steps the quick way takes in all before the memo is worth its clearing (docs/SPEED.md).
-pub const FIRST: u64 = 4096;
+pub const FIRST: u64 = 1024;
 
 // How many steps of the fast path are many beside its clearing.
 const FAR: u64 = 32768;
