@@ -266,10 +266,11 @@ impl Writer {
         self.base + 4 * word as u64
     }
 
-    /// All patches, three times, and at last a jump to itself. Where satp turns, it does so an odd number of times in between.
+    /// All patches, five times, so that a run comes to its fast path behind the second, and at last a jump to itself. Where satp turns, it does so an
+    /// odd number of times in between.
     fn code(&mut self) {
         use Place::*;
-        self.words.push(addi(ROUNDS, 0, 3));
+        self.words.push(addi(ROUNDS, 0, 5));
         let start = self.here();
         for place in [Next, JustRun, Ahead, Behind] {
             for width in 0..4 {
