@@ -4,7 +4,7 @@
  * sporhulma_write; tools/library builds them. What each call does with anything that is handed in is proved; docs/PROMISES.md states
  * it. Trusted is that the caller's pointers are what the types say: arrays of the given length, which do not overlap, and memory of
  * mem_len bytes, a map of map_len words and a text of text_len bytes (a pointer that is not null, also where the length is 0). A run of more
- * than 4,096 steps needs some 120 KiB of stack.
+ * than 1,024 steps needs some 120 KiB of stack.
  */
 #ifndef SPORHULMA_H
 #define SPORHULMA_H

@@ -1,7 +1,8 @@
 //! Which way the proved run takes each step of a call (docs/SPEED.md), to count what the cases reach: no answer depends on it.
 //!
 //! The first steps go the quick way, then the fast path remembers decoded words and pages as long as it is not left. What neither does goes the
-//! slow way; behind it the quick way comes first again, unless the fast path had gone far and the setting is the same.
+//! slow way; behind it the quick way comes first again, unless the fast path had gone far and the setting is the same. Here the first steps are
+//! counted anew behind each slow step; the run counts them over slow steps, and so begins the fast path as early or earlier.
 
 use crate::again::Step;
 use crate::state::SSE;
