@@ -1,4 +1,4 @@
--- What a form leaves of memory.
+-- What a form leaves of memory. Rule 10.9 of docs/HART.md.
 use mathlib.Core.List.{List}
 use mathlib.Core.Path.{_≡_}
 use Prim.Native.Nat.{ℕ, _-_, _/_, _≤_}

@@ -39,7 +39,7 @@ module _ (c : Control) (m : Mode) (a : ℕ) (machine : c .mode ≡ Machine) (mpr
   unfolding transformedOf
   whole-swap = rw (machine, mprv, mxr)
 
--- step 2 as document 01 has it: by the PMM of the effective mode, and not for fetch
+-- step 2 without rule 7.2 e of docs/HART.md: by the PMM of the effective mode, and not for fetch
 abbrev pub beforeA2 : Control → Mode → Kind → ℕ → ℕ
 beforeA2 c m k a = pick (isFetch k) a (maskedOf c m a)
 

@@ -1,4 +1,4 @@
--- Rows 1 to 4 and 10 of document 01's P table.
+-- The worked cases of docs/HART.md, 14.1 (rows 1 to 4) and 14.5 (row 10).
 -- Assumes nothing.
 use mathlib.Core.Path.{_≡_, refl}
 use mathlib.Core.Bool.{true, false}

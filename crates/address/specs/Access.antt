@@ -1,4 +1,4 @@
--- The kind of access that a memory instruction makes. A fetch is no instruction's.
+-- The kind of access that a memory instruction makes. A fetch is no instruction's. Rule 3.21 and chapter 7 of docs/HART.md.
 use Rattle.isa.specs.declared.Access.{Access}
 use Rattle.isa.specs.declared.Access.the-variants as access
 use Rattle.isa.specs.declared.Kind.{Kind}

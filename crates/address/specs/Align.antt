@@ -1,4 +1,4 @@
--- Step 3: the address is a multiple of the access's size.
+-- Step 3: the address is a multiple of the access's size. Rule 7.3 of docs/HART.md.
 use mathlib.Core.Bool.{Bool}
 use Prim.Native.Nat.{ℕ, _%_}
 use lib.Dec.{eqb}

@@ -1,4 +1,4 @@
--- The causes of an access's faults.
+-- The causes of an access's faults. Rules 7.3 and 7.10 of docs/HART.md.
 use Prim.Native.Nat.{ℕ}
 use Rattle.isa.specs.declared.Kind.the-variants.{Fetch, Load, Store, Push, Pop, Swap}
 use Rattle.isa.specs.declared.Kind.{Kind}

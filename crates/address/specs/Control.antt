@@ -1,5 +1,5 @@
 -- Step 1, the effective mode, and what goes by it: which PMM counts, whether Sv39 is in force, and where neither concerns an access;
--- and which accesses are not masked at all.
+-- and which accesses are not masked at all. Rules 7.1 and 7.2 of docs/HART.md.
 --
 -- Below, c is what the hart's mode and CSRs say about accesses, and m the effective mode.
 use mathlib.Core.Bool.{Bool, true, false, _&&_, _||_, not}

@@ -1,4 +1,4 @@
--- Step 2, masking, over the number of masked bits.
+-- Step 2, masking, over the number of masked bits. Rules 5.16 and 7.2 of docs/HART.md.
 use mathlib.Core.Bool.{Bool}
 use Prim.Native.Nat.{ℕ, _-_, _%_, _^_}
 use Rattle.word.specs.Choice.{pick, Table, _⇒_¦_, otherwise, look}

@@ -1,4 +1,4 @@
--- Where a push goes.
+-- Where a push goes. Rule 8.3 of docs/HART.md.
 use Prim.Native.Nat.{ℕ}
 use Rattle.word.specs.Sum.{differenceOf}
 

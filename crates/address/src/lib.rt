@@ -1,5 +1,5 @@
-// What the way from address to byte is made of: the parts of document 01's nine steps that need neither the page map nor memory. The
-// steps in their order, and where they lead, are crate `place`.
+// What the way from address to byte is made of: the parts of its nine steps (docs/HART.md, 7.1 to 7.9) that need neither the page map
+// nor memory. The steps in their order, and where they lead, are crate `place`.
 //
 // Nothing here knows a hart: `Control` is what a hart's mode and CSRs say about accesses.
 

@@ -1,5 +1,5 @@
 -- The public calls: `stepCall` fetches at pc, `stepWordCall` takes a given word, `runCall` makes a run. Each gives the whole
--- outcome: the answer, and all of memory.
+-- outcome: the answer, and all of memory. Rules 2.1 and 2.7 to 2.9 of docs/HART.md.
 --
 -- Below, h is the hart, m memory, map the page map.
 use mathlib.Core.Bool.{false, not}

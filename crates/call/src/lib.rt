@@ -11,8 +11,8 @@ ghost use Rattle.word.specs.Choice.{pick};
 ghost use Rattle.hart.specs.Hart.{hart};
 ghost use Rattle.call.specs.Call.{refusalOf, runRefusalOf};
 
-// What a call answers. refusal is 0 where the call was taken, else document 01's number, and then the hart is the one handed in
-// and count is 0. cause is the last trap's, and 0 where there was none.
+// What a call answers. refusal is 0 where the call was taken, else the refusal's number (docs/HART.md, 2.3 to 2.7), and then the hart is
+// the one handed in and count is 0. cause is the last trap's, and 0 where there was none.
 pub struct Answer {
     pub refusal: u64,
     pub hart: Hart,

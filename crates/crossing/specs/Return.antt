@@ -1,4 +1,4 @@
--- What a return makes of mstatus, and the mode that it goes to.
+-- What a return makes of mstatus, and the mode that it goes to. Rules 6.7 to 6.10 of docs/HART.md.
 use mathlib.Core.Bool.{true, false, _&&_}
 use Prim.Native.Nat.{ℕ}
 use lib.Dec.{eqb}

@@ -1,4 +1,4 @@
--- Whether a trap goes to S or to M.
+-- Whether a trap goes to S or to M. Rule 6.1 of docs/HART.md.
 use mathlib.Core.Bool.{Bool, false}
 use Prim.Native.Nat.{ℕ}
 use Rattle.isa.specs.declared.Mode.{Mode}

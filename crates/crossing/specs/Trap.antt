@@ -1,4 +1,4 @@
--- What a trap makes of mstatus.
+-- What a trap makes of mstatus. Rules 6.2 and 6.3 of docs/HART.md.
 use mathlib.Core.Bool.{Bool, true, false}
 use Prim.Native.Nat.{ℕ}
 use Rattle.isa.specs.declared.Mode.{Mode}

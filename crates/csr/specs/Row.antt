@@ -1,4 +1,4 @@
--- The eighteen CSRs of document 01, a row of fields each. Unnamed bits read zero.
+-- The eighteen CSRs of docs/HART.md, 5.1, a row of fields each (5.5 to 5.21). Unnamed bits read zero.
 use mathlib.Core.Bool.{Bool, true, false, _||_, not}
 use mathlib.Core.List.{List, [], _∷_}
 use Prim.Native.Nat.{ℕ}

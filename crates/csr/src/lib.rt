@@ -4,7 +4,7 @@ pub mod access;
 pub mod legal;
 mod row;
 
-// The CSRs of document 01, in its order.
+// The CSRs of docs/HART.md, 5.1, in its order.
 pub enum Csr {
     Ssp,
     Sstatus,

@@ -1,4 +1,4 @@
--- What the words of document 01's P table are read as: rows 5, 6 and 7, 8, 9. The rows' effects are the step's.
+-- What the words of the worked cases of docs/HART.md are read as: 14.2 (row 5), 14.3 (6 and 7), 14.4 (8 and 9). Their effects are the step's.
 -- Assumes nothing.
 use mathlib.Core.Path.{_≡_, refl}
 use Rattle.base.specs.Base.{jalrOf}

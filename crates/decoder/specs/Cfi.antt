@@ -1,4 +1,4 @@
--- Zicfiss and Zimop: the shadow swap, the may-be-operations, and document 01's words that push, pop-check or read ssp.
+-- Zicfiss and Zimop: the shadow swap, the may-be-operations, and the words that push, pop-check or read ssp (docs/HART.md, 3.17 to 3.19).
 use mathlib.Core.Bool.{Bool}
 use Prim.Native.Nat.{ℕ, _+_, _-_, _*_, _/_, _%_, _^_}
 use lib.Dec.{eqb}

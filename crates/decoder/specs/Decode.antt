@@ -1,5 +1,5 @@
 -- The instruction that a word names: the manual's map of major opcodes. Every word that no row has is illegal, among them each whose low two bits are
--- not 11.
+-- not 11. Rules 3.3 and 3.20 of docs/HART.md.
 use Prim.Native.Nat.{ℕ}
 use Rattle.word.specs.Choice.{Table, _⇒_¦_, otherwise, look}
 use Rattle.word.specs.Field.{opcode, fieldsOf}

@@ -1,4 +1,4 @@
--- The SYSTEM opcode. SFENCE.VMA, WFI and every other word of funct3 000 is illegal.
+-- The SYSTEM opcode. SFENCE.VMA, WFI and every other word of funct3 000 is illegal. Rules 3.15 and 3.16 of docs/HART.md.
 use Prim.Native.Nat.{ℕ}
 use Rattle.word.specs.Choice.{Table, _⇒_¦_, otherwise, look}
 use Rattle.word.specs.Field.{bits}

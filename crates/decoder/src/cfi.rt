@@ -47,7 +47,7 @@ fn mop(w: u32, f: Fields) -> Instruction
     Instruction::Illegal
 }
 
-// Document 01's table of the words that Zicfiss gives a meaning; every other word is the plain operation.
+// The table of the words that Zicfiss gives a meaning (docs/HART.md, 3.18); every other word is the plain operation.
 pub fn zimop(w: u32, f: Fields) -> Instruction
     ensures { λ r. ⌜ r ≡ zimopOf w f ⌝ }
 {

@@ -1,4 +1,4 @@
--- What OP, OP-IMM and their word forms compute from two numbers, and when a branch is taken.
+-- What OP, OP-IMM and their word forms compute from two numbers, and when a branch is taken. Rules 4.3 to 4.16 and 4.19 of docs/HART.md.
 use mathlib.Core.Bool.{Bool, true, false, not}
 use Prim.Native.Nat.{ℕ}
 use lib.Bits.{bitAnd, bitOr, bitXor}

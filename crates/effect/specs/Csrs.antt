@@ -1,4 +1,4 @@
--- The CSR instructions: which CSR, with which operand, and whether it is written.
+-- The CSR instructions: which CSR, with which operand, and whether it is written. Rules 4.27 and 4.28 of docs/HART.md.
 use mathlib.Core.Bool.{Bool, true, not}
 use mathlib.Core.List.{List}
 use Prim.Native.Nat.{ℕ, _-_, _^_}

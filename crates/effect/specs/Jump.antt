@@ -1,4 +1,5 @@
 -- JAL, JALR and branches. A misaligned jump target is cause 0, tval the plain target; a branch's only where it is taken.
+-- Rules 4.17 to 4.20 and 9.2 of docs/HART.md.
 use mathlib.Core.Bool.{Bool, _&&_, _||_, not}
 use Prim.Native.Nat.{ℕ, _-_, _%_}
 use lib.Dec.{eqb}

@@ -1,4 +1,4 @@
--- The registers by number. A number has five bits.
+-- The registers by number. A number has five bits. Rule 1.4 of docs/HART.md.
 use mathlib.Core.List.{List}
 use Prim.Native.Nat.{ℕ, _%_}
 use lib.ListN.{getD, set}

@@ -1,4 +1,4 @@
--- MRET, SRET and the exceptions that an instruction makes by itself.
+-- MRET, SRET and the exceptions that an instruction makes by itself. Rules 4.24 to 4.29 of docs/HART.md.
 use Prim.Native.Nat.{ℕ}
 use Rattle.isa.specs.declared.Mode.{Mode}
 use Rattle.isa.specs.declared.Mode.the-variants.{User, Supervisor, Machine}

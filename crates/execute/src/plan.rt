@@ -1,4 +1,4 @@
-// A step's effect, in document 01's order: fetch faults, then the landing pad check, then decoding, then the instruction.
+// A step's effect, in the order of docs/HART.md, 10.1: fetch faults, then the landing pad check, then decoding, then the instruction.
 use super::instruction;
 use address::Virtual;
 use address::control::Control;

@@ -1,5 +1,5 @@
 -- The decoder's verdict as a number: 0 for a word that is no instruction of the hart, else its family. A memory instruction's
--- family is its access.
+-- family is its access. Rule 12.1 of docs/HART.md.
 use Prim.Native.Nat.{ℕ}
 use Rattle.isa.specs.declared.Access.{Access}
 use Rattle.isa.specs.declared.Access.the-variants.{Load, Store, Push, Pop, Swap}

@@ -1,4 +1,5 @@
 -- The memo: what is known of the words at 4,096 addresses at most, under one setting. An address has the entry of its number of a word, modulo 4,096.
+-- Rules 10.9 and 10.10 of docs/HART.md.
 --
 -- Below, nums holds the entries' addresses, then where their words stand in memory, then their forms' numbers, 4,096 each; bytes their forms'
 -- registers, rd, rs1 and rs2, 4,096 each, and a flag for each of the 256 frames of memory; ops their forms' operations. s is what the hart's mode and

@@ -1,4 +1,4 @@
--- What a form does, and which instruction it stands for.
+-- What a form does, and which instruction it stands for. Rule 10.10 of docs/HART.md.
 --
 -- Below, a and r are the values of the two registers, v the form's number, c what the hart's mode and CSRs say about accesses, m memory.
 use mathlib.Core.Bool.{true, false}

@@ -1,5 +1,5 @@
 -- The quick way through a run: instructions done in place, one after the other, while no landing pad is expected. It keeps pc aside, in a machine
--- register.
+-- register. Rule 10.10 of docs/HART.md.
 --
 -- Below, x are the registers, w the hart's other words, m memory; a name with ' is what it is afterwards.
 use mathlib.Core.Bool.{Bool, true, false}

@@ -1,6 +1,6 @@
 -- What the quick way does with a CSR instruction on a trap handler's registers: it does all that the instruction's effect says, or it leaves
 -- everything as it was. It never makes a trap, and never changes a CSR that a setting depends on: whoever keeps a hart's setting at hand need not
--- make it again.
+-- make it again. Rule 10.10 of docs/HART.md.
 --
 -- Below, x are the registers, rest the hart's other words; a name with ' is what it is afterwards. next is the instruction after this one: none of
 -- these goes elsewhere.

@@ -1,5 +1,5 @@
--- Rows 5 to 9 of document 01's P table, as steps of any hart that the row speaks of: the whole outcome. (Rows 1 to 4 and 10
--- are address/proofs/Rows.antt.)
+-- The worked cases of docs/HART.md, 14.2 (row 5), 14.3 (6 and 7) and 14.4 (8 and 9), as steps of any hart that they speak of: the whole
+-- outcome. (14.1, rows 1 to 4, and 14.5, row 10, are address/proofs/Rows.antt.)
 -- Assumes nothing.
 use mathlib.Core.Bool.{Bool, true, false, _&&_}
 use mathlib.Core.List.{List}

@@ -1,4 +1,4 @@
--- A hart: the thirty-two registers, and its other words by name (crate `words`).
+-- A hart: the thirty-two registers, and its other words by name (crate `words`). Rules 1.3, 2.2 and 2.3 of docs/HART.md.
 use mathlib.Core.Bool.{Bool, _&&_}
 use mathlib.Core.List.{List}
 use Prim.Native.Nat.{ℕ}

@@ -1,4 +1,4 @@
--- A run: it ends after the first step that traps, or when the budget is spent, and counts its steps.
+-- A run: it ends after the first step that traps, or when the budget is spent, and counts its steps. Rules 10.4 to 10.6 of docs/HART.md.
 use mathlib.Core.Bool.{Bool, true, false}
 use mathlib.Core.List.{List}
 use mathlib.Core.Path.{_≡_}

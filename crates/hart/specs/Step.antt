@@ -1,4 +1,5 @@
 -- One step: the effect of the instruction, applied to the hart and to memory. `stepOf` fetches, `stepWordOf` takes a word.
+-- Rules 10.1 to 10.3 and 4.32 of docs/HART.md.
 --
 -- Below, h is the hart, m memory, e the effect.
 use mathlib.Core.Bool.{Bool, true, false}

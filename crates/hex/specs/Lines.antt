@@ -1,4 +1,4 @@
--- The lines of a text. A line ends in LF (10) or CR LF (13, 10); the last may lack its end.
+-- The lines of a text. A line ends in LF (10) or CR LF (13, 10); the last may lack its end. Rule 11.3 of docs/HART.md.
 use mathlib.Core.Bool.{_&&_}
 use mathlib.Core.List.{List, [], _∷_}
 use Prim.Native.Nat.{ℕ}

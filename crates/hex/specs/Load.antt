@@ -1,4 +1,4 @@
--- A whole text: the first bad line, the start address, and memory after all records.
+-- A whole text: the first bad line, the start address, and memory after all records. Rules 11.2 and 11.11 to 11.19 of docs/HART.md.
 --
 -- Below, l is a line, ls are lines, upper is the upper address, n the number of a line, len memory's length.
 use mathlib.Core.List.{List, [], _∷_}

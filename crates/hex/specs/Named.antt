@@ -1,4 +1,4 @@
--- The bytes that records name, and what a byte of memory is after all of them: what the laws speak of.
+-- The bytes that records name, and what a byte of memory is after all of them: what the laws speak of. Rule 11.18 of docs/HART.md.
 --
 -- Below, l is a line, ls are lines, upper is the upper address, and j an index of memory: the byte at the address 0x80000000 + j.
 use mathlib.Core.Bool.{Bool, false, _&&_, _||_}

@@ -1,4 +1,4 @@
--- How many bytes an access moves: document 01's "each with its width".
+-- How many bytes an access moves (docs/HART.md, 3.21).
 use Prim.Native.Nat.{ℕ}
 use Rattle.isa.specs.declared.Access.{Access}
 use Rattle.isa.specs.declared.Access.the-variants.{Load, Store, Push, Pop, Swap}

@@ -1,5 +1,5 @@
 -- Request A13: what a user program can't see. This file is the statement and nothing else; proofs/Isolation.antt proves it,
--- docs/ISOLATION.md explains it. The user's words:
+-- docs/ISOLATION.md explains it, and it is rules 13.11 to 13.15 of docs/HART.md. The user's words:
 --
 --   Take two runs from the same user-mode hart with Sv39 on and the same map, with memories of the same length that differ only in
 --   frames that no valid entry with its U bit names. Up to and including the first trap the harts, counts and trap answers are the

@@ -1,4 +1,4 @@
--- What an Sv39 leaf lets an access do: steps 5 to 8, in their order.
+-- What an Sv39 leaf lets an access do: steps 5 to 8, in their order. Rules 7.5 to 7.8 of docs/HART.md, of which step n is 7.n.
 use mathlib.Core.Bool.{Bool, true, false, _&&_, _||_, not}
 use Rattle.page.specs.Kinds.{isShadow, isFetch, writes}
 use Rattle.isa.specs.declared.Kind.the-variants.{Fetch, Load, Store, Push, Pop, Swap}

@@ -1,5 +1,5 @@
 -- The usual grant: what most accesses are granted on, by fewer tests than steps 5 to 8. Whatever it grants, those steps grant
--- (`usual-granted` in proofs/Shortcut.antt); of the rest it says nothing.
+-- (`usual-granted` in proofs/Shortcut.antt); of the rest it says nothing. Rule 10.10 of docs/HART.md.
 use mathlib.Core.Bool.{Bool, false, _&&_, not}
 use Rattle.isa.specs.declared.Kind.the-variants.{Fetch, Load, Store, Push, Pop, Swap}
 use Rattle.isa.specs.declared.Kind.{Kind}

@@ -1,5 +1,5 @@
-// What a leaf of the page map lets an access do: steps 5 to 8 of document 01's "From address to byte", in their order. Step 5, whether
-// the leaf is a page's, is asked of crate `leaf`.
+// What a leaf of the page map lets an access do: steps 5 to 8, which are rules 7.5 to 7.8 of docs/HART.md, in their order. Step 5,
+// whether the leaf is a page's, is asked of crate `leaf`.
 use isa::Kind;
 use isa::Mode;
 use leaf::Leaf;

@@ -1,4 +1,4 @@
--- An Sv39 leaf, and whether it is a page's: step 5.
+-- An Sv39 leaf, and whether it is a page's: step 5. Rules 1.10 and 7.5 of docs/HART.md.
 use mathlib.Core.Bool.{Bool, _&&_, _||_, not}
 use Prim.Native.Nat.{ℕ, _/_, _%_, _^_}
 use lib.Dec.{eqb}

@@ -1,4 +1,4 @@
-// A leaf of the page map, and whether it is a page's at all: step 5 of document 01's "From address to byte". The word is taken apart
+// A leaf of the page map, and whether it is a page's at all: step 5, which is rule 7.5 of docs/HART.md. The word is taken apart
 // once, into bools. How a leaf is found is the business of crate `page`, what it lets an access do that of crate `judge`.
 ghost use mathlib.Core.Path.{_≡_};
 ghost use Rattle.leaf.specs.Leaf.{leafOf, shadowPage, readOnly, hasRight, validLeaf};

@@ -1,5 +1,5 @@
 -- One instruction's effect: what RV64I, ECALL, EBREAK, the CSR instructions, MRET, SRET, Zimop, Zicfiss and Zicfilp do, from
--- the registers x, pc, ssp, what the hart's mode and CSRs say (s), memory m and the map.
+-- the registers x, pc, ssp, what the hart's mode and CSRs say (s), memory m and the map. Rules of docs/HART.md: chapter 4, 8.6 and 9.2.
 use mathlib.Core.Bool.{Bool}
 use mathlib.Core.List.{List}
 use Prim.Native.Nat.{ℕ}

@@ -1,4 +1,4 @@
--- Bytes in memory, little-endian, over the number of bytes n.
+-- Bytes in memory, little-endian, over the number of bytes n. Rules 1.7 and 1.8 of docs/HART.md.
 use mathlib.Core.List.{List, [], _∷_, _++_}
 use Prim.Native.Nat.{ℕ, zero, suc, _+_, _*_, _/_, _%_}
 use lib.ListN.{take, drop}

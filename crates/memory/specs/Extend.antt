@@ -1,4 +1,4 @@
--- Sign extension by width.
+-- Sign extension by width. Rule 4.21 of docs/HART.md.
 use mathlib.Core.Bool.{Bool}
 use Prim.Native.Nat.{ℕ, _*_}
 use Rattle.word.specs.Choice.{pick}

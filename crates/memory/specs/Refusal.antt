@@ -1,4 +1,4 @@
--- Refusal 2.
+-- Refusal 2. Rule 2.5 of docs/HART.md.
 use mathlib.Core.Bool.{Bool, _||_, not}
 use Prim.Native.Nat.{ℕ, _%_}
 use lib.Dec.{eqb, ltb}

@@ -1,4 +1,5 @@
 -- What the quick way does with an instruction: it does all that the instruction's effect says, or it leaves everything as it was.
+-- Rule 10.10 of docs/HART.md.
 --
 -- Below, x are the registers, rest the hart's other words, m memory; a name with ' is what it is afterwards. s is what the hart's mode and CSRs say.
 use mathlib.Core.Bool.{Bool, true, false}

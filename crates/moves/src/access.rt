@@ -227,8 +227,8 @@ fn pop(v: u64, pc: u64, rest: &mut [u64; COUNT], c: Control, mem: &[u8], map: &[
     }
 }
 
-// Document 01's words for push and pop-check, while the active shadow enable is set. Off, they write 0 to register 0: that is left to
-// the whole way.
+// The words for push and pop-check (docs/HART.md, 3.18), while the active shadow enable is set. Off, they write 0 to register 0: that is
+// left to the whole way.
 pub fn shadow(
     w: u32,
     x: &[u64; 32],

@@ -1,4 +1,5 @@
 -- The number of an operation, as the manual's listings print it: funct7, then rs2, then funct3, with 0 for what is an operand.
+-- Rule 12.3 of docs/HART.md.
 use mathlib.Core.Bool.{Bool, true, false}
 use Prim.Native.Nat.{ℕ}
 use Rattle.isa.specs.declared.Width.{Width}

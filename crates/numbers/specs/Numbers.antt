@@ -1,5 +1,5 @@
 -- A decoded instruction as eight numbers, one layout for all families: the family, its operation, rd, rs1, rs2, the immediate, and two
--- for what is left. What a family does not have is 0. include/sporhulma.h explains them for C.
+-- for what is left. What a family does not have is 0. include/sporhulma.h explains them for C. Rules 12.2 and 12.4 of docs/HART.md.
 use mathlib.Core.Bool.{Bool, true, false}
 use Prim.Native.Nat.{ℕ}
 use Rattle.isa.specs.declared.Access.{Access}

@@ -1,4 +1,4 @@
--- What the rules ask of a kind of access.
+-- What the rules ask of a kind of access. Rules 7.6 to 7.8 of docs/HART.md.
 use mathlib.Core.Bool.{Bool, true, false}
 use Rattle.isa.specs.declared.Kind.the-variants.{Fetch, Load, Store, Push, Pop, Swap}
 use Rattle.isa.specs.declared.Kind.{Kind}

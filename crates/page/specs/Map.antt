@@ -1,4 +1,4 @@
--- The page map: two words a page, the page number and then its leaf.
+-- The page map: two words a page, the page number and then its leaf. Rules 1.9, 2.6 and 7.5 of docs/HART.md.
 use mathlib.Core.Bool.{Bool, true, false, _&&_, _||_, not}
 use mathlib.Core.List.{List, [], _∷_}
 use Prim.Native.Nat.{ℕ, _%_, _^_}

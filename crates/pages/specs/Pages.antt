@@ -1,4 +1,5 @@
 -- What is remembered of pages, under what the hart's mode and CSRs say (c), with this map and so many bytes of memory.
+-- Rule 10.10 of docs/HART.md.
 use mathlib.Core.List.{List}
 use mathlib.Core.Path.{_≡_}
 use Prim.Native.Nat.{ℕ, zero, suc, _+_, _-_, _*_, _/_, _%_, _^_, _<_, _≤_}

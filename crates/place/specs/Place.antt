@@ -1,6 +1,6 @@
 -- From a virtual address to a place in memory, or to a cause and its tval: the nine steps. `placeOf` is the whole; the definitions
 -- above it are its parts, and `reachedOf` has their order. `flatPlaceOf`, the last, is what is left of it for an access that is neither
--- masked nor translated (proofs/Flat.antt).
+-- masked nor translated (proofs/Flat.antt). Rules 7.1 to 7.9 of docs/HART.md, of which step n is 7.n.
 --
 -- Below, c is what the hart's mode and CSRs say, m the effective mode, a the address as the program gives it, t the transformed
 -- one, which is also tval, p the physical one, and len the number of bytes of memory.

@@ -1,4 +1,4 @@
--- What a window shows: where fetches from its addresses find their words.
+-- What a window shows: where fetches from its addresses find their words. Rule 10.10 of docs/HART.md.
 use mathlib.Core.Bool.{Bool}
 use mathlib.Core.List.{List}
 use mathlib.Core.Path.{_≡_}

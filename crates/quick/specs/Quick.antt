@@ -1,4 +1,4 @@
--- What the quick way does with an instruction that touches the registers and pc alone, and what it sees of memory.
+-- What the quick way does with an instruction that touches the registers and pc alone, and what it sees of memory. Rule 10.10 of docs/HART.md.
 use mathlib.Core.Bool.{Bool, true}
 use mathlib.Core.List.{List}
 use mathlib.Core.Path.{_≡_}

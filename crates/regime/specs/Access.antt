@@ -1,4 +1,4 @@
--- Which CSR an address names.
+-- Which CSR an address names. Rules 5.1 to 5.4 of docs/HART.md.
 use Prim.Native.Nat.{ℕ}
 use Rattle.rights.specs.Enable.{permitsOf}
 use Rattle.rights.specs.Reach.{reachOf}

@@ -1,4 +1,4 @@
--- Refusal 1, of the mode.
+-- Refusal 1, of the mode. Rule 2.3 c of docs/HART.md.
 use mathlib.Core.Bool.{Bool, _||_}
 use Prim.Native.Nat.{ℕ}
 use lib.Dec.{eqb}

@@ -1,4 +1,4 @@
--- What the hart's mode and CSRs switch on: the enables, and what translation needs to know.
+-- What the hart's mode and CSRs switch on: the enables, and what translation needs to know. Rules 7.1, 7.2, 8.1 and 9.1 of docs/HART.md.
 use mathlib.Core.Bool.{Bool}
 use Prim.Native.Nat.{ℕ, _/_, _^_}
 use lib.Dec.{eqb}

@@ -1,4 +1,4 @@
--- What menvcfg, senvcfg and mseccfg switch on, by the mode.
+-- What menvcfg, senvcfg and mseccfg switch on, by the mode. Rules 5.4, 5.18, 8.1, 8.7 and 9.1 of docs/HART.md.
 use mathlib.Core.Bool.{Bool, true, false, _&&_}
 use Prim.Native.Nat.{ℕ}
 use Rattle.isa.specs.declared.Mode.{Mode}

@@ -1,4 +1,5 @@
 -- What cause and tval hold of an exception that an instruction makes by itself. An access's are `Rattle.address.specs.Cause`.
+-- Rules 4.24 to 4.26 of docs/HART.md.
 use Prim.Native.Nat.{ℕ}
 use Rattle.isa.specs.declared.Mode.{Mode}
 use Rattle.isa.specs.declared.Mode.the-variants.{User, Supervisor, Machine}

@@ -1,4 +1,4 @@
--- Which CSR an address names, and whether a mode may touch it.
+-- Which CSR an address names, and whether a mode may touch it. Rules 5.1 to 5.4 of docs/HART.md.
 use mathlib.Core.Bool.{Bool}
 use Prim.Native.Nat.{ℕ}
 use lib.Dec.{ltb}

@@ -1,4 +1,4 @@
--- The calls for C: what a read leaves, and what a write promises, in terms of a read alone.
+-- The calls for C: what a read leaves, and what a write promises, in terms of a read alone. Rules 12.5 and 12.6 of docs/HART.md.
 use mathlib.Core.List.{List, [], _∷_}
 use mathlib.Core.Logic.{_⊎_}
 use mathlib.Core.Path.{_≡_}

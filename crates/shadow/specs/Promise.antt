@@ -1,5 +1,5 @@
 -- Demand 3: the shadow stack keeps its promise. This file is the statement and nothing else; proofs/Demand.antt proves it, docs/SHADOW.md
--- explains it. The user's words:
+-- explains it, and it is rules 13.2 to 13.8 of docs/HART.md. The user's words:
 --
 --   Start in user mode with Sv39 and both shadow-stack enables on, and let each frame of a valid shadow page stand in one entry of
 --   the map only. Take any stretch of steps under one map, each from the hart and memory that the last one left, up to and

@@ -1,4 +1,4 @@
--- The calls for C: what each leaves, in every word and byte, through the definitions of crate `call`.
+-- The calls for C: what each leaves, in every word and byte, through the definitions of crate `call`. Rule 2.12 of docs/HART.md.
 --
 -- Below, x and rest are the words of the hart, m memory, map the page map.
 use mathlib.Core.List.{List, [], _∷_}

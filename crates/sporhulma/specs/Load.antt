@@ -1,4 +1,4 @@
--- The load for C: what it leaves, in every word and byte, through the definition of crate `hex`.
+-- The load for C: what it leaves, in every word and byte, through the definition of crate `hex`. Rule 11.20 of docs/HART.md.
 use mathlib.Core.List.{List, [], _∷_}
 use Prim.Native.Nat.{ℕ}
 use Rattle.hex.specs.Load.{Called, loadOf}

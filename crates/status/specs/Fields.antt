@@ -1,4 +1,4 @@
--- mstatus and sstatus, a row of fields each. Unnamed bits read zero.
+-- mstatus and sstatus, a row of fields each. Unnamed bits read zero. Rules 5.5 to 5.8 of docs/HART.md.
 use mathlib.Core.Bool.{Bool, true, not}
 use mathlib.Core.List.{List, [], _∷_}
 use Prim.Native.Nat.{ℕ}

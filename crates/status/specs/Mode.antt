@@ -1,4 +1,4 @@
--- Modes and their numbers.
+-- Modes and their numbers. Rule 1.1 of docs/HART.md.
 use Prim.Native.Nat.{ℕ}
 use Rattle.word.specs.Choice.{Table, _⇒_¦_, otherwise, look}
 use Rattle.isa.specs.declared.Mode.{Mode}

@@ -1,4 +1,4 @@
--- mstatus as a struct of its fields, and what a write makes of it.
+-- mstatus as a struct of its fields, and what a write makes of it. Rules 5.5 to 5.8 of docs/HART.md.
 use mathlib.Core.Bool.{Bool, true, false}
 use Prim.Native.Nat.{ℕ, _+_, _*_, _/_, _%_, _^_}
 use Rattle.word.specs.Choice.{pick}

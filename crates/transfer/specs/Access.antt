@@ -1,5 +1,5 @@
 -- Loads, stores and the shadow stack. `accessOf` is the whole: whether the instruction is on and legal, then its place, and
--- then what it does there.
+-- then what it does there. Rules 4.21, 4.22 and 8.2 to 8.8 of docs/HART.md.
 --
 -- Below, a and b are the values of rs1 and rs2, next is the address of the next instruction, s what the hart's mode and CSRs
 -- say, m memory.

@@ -1,4 +1,4 @@
--- What an effect leaves in memory. m is memory.
+-- What an effect leaves in memory. m is memory. Rules 1.8, 4.22, 8.3 and 8.8 of docs/HART.md.
 use mathlib.Core.List.{List}
 use Prim.Native.Nat.{ℕ, _-_}
 use Rattle.isa.specs.Size.{sizeOf}

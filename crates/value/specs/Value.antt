@@ -1,4 +1,4 @@
--- What a word of OP, OP-IMM or their word forms writes: it touches its register and pc alone.
+-- What a word of OP, OP-IMM or their word forms writes: it touches its register and pc alone. Rule 10.10 of docs/HART.md.
 use mathlib.Core.Bool.{Bool, true, false}
 use mathlib.Core.List.{List}
 use mathlib.Core.Path.{_≡_}

@@ -1,4 +1,4 @@
--- The fields of an instruction word, as the manual draws them.
+-- The fields of an instruction word, as the manual draws them. Rule 3.1 of docs/HART.md.
 use Prim.Native.Nat.{ℕ, _+_, _-_, _/_, _%_, _^_}
 use Rattle.word.specs.declared.field.Fields.{Fields}
 

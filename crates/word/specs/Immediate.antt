@@ -1,4 +1,4 @@
--- The immediates of the five formats: the manual's bits, put together and sign-extended to 64 bits.
+-- The immediates of the five formats: the manual's bits, put together and sign-extended to 64 bits. Rule 3.2 of docs/HART.md.
 use Prim.Native.Nat.{ℕ, _+_, _*_, _^_}
 use Rattle.word.specs.Field.{bits}
 use Rattle.word.specs.Sign.{signExtendOf}

@@ -1,5 +1,5 @@
 -- A control register as a row of fields, from bit 0 upward to bit 63: what a write leaves, what a read shows, and which words it
--- can hold.
+-- can hold. Rules 5.5 to 5.21 of docs/HART.md.
 use mathlib.Core.Bool.{Bool, true, false, _&&_}
 use mathlib.Core.List.{List, [], _∷_}
 use Prim.Native.Nat.{ℕ, zero, suc, _+_, _-_, _*_, _/_, _%_, _^_}

@@ -1,4 +1,4 @@
--- Shifts. The amount is the low six bits of its operand, in a word form the low five.
+-- Shifts. The amount is the low six bits of its operand, in a word form the low five. Rules 4.6 and 4.7 of docs/HART.md.
 use Prim.Native.Nat.{ℕ, _+_, _-_, _*_, _/_, _%_, _^_}
 use Rattle.word.specs.Sign.{signExtendOf}
 

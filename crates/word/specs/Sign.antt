@@ -1,4 +1,4 @@
--- Sign extension, and the signed number that k bits stand for, over k.
+-- Sign extension, and the signed number that k bits stand for, over k. Rule 1.5 of docs/HART.md.
 use Prim.Native.Nat.{ℕ, suc, _+_, _-_, _*_, _/_, _%_, _^_}
 use lib.Dec.{ltb}
 use lib.IntN.{ℤ, pos, negsuc}

@@ -1,4 +1,4 @@
--- Sums and differences that wrap.
+-- Sums and differences that wrap. Rules 1.5, 4.3 and 4.7 of docs/HART.md.
 use Prim.Native.Nat.{ℕ, _+_, _-_, _%_, _^_}
 use Rattle.word.specs.Sign.{signExtendOf}
 

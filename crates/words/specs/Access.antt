@@ -1,4 +1,4 @@
--- What a read of a CSR shows and what a write leaves.
+-- What a read of a CSR shows and what a write leaves. Rule 4.27 and chapter 5 of docs/HART.md.
 use mathlib.Core.List.{List}
 use Prim.Native.Nat.{ℕ}
 use Rattle.csr.specs.declared.Csr.{Csr}

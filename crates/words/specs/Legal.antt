@@ -1,4 +1,4 @@
--- Refusal 1, of the words.
+-- Refusal 1, of the words. Rules 2.3 and 2.4 of docs/HART.md.
 use mathlib.Core.Bool.{Bool, true, _&&_}
 use mathlib.Core.List.{List}
 use Prim.Native.Nat.{ℕ, _%_}

@@ -1,4 +1,4 @@
--- MRET and SRET.
+-- MRET and SRET. Rules 6.7 to 6.9 of docs/HART.md.
 use mathlib.Core.Bool.{Bool, _&&_}
 use mathlib.Core.List.{List}
 use Prim.Native.Nat.{ℕ}

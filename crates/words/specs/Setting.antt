@@ -1,4 +1,4 @@
--- What a mode and the CSRs say about an instruction.
+-- What a mode and the CSRs say about an instruction. Rule 5.22 of docs/HART.md.
 use mathlib.Core.Bool.{Bool, true, false}
 use mathlib.Core.List.{List}
 use Prim.Native.Nat.{ℕ}

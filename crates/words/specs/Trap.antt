@@ -1,4 +1,5 @@
 -- Trap entry: save pc, cause, tval, and in mstatus the mode, the interrupt enable and ELP (to MPELP or SPELP); clear ELP; go to tvec.
+-- Rules 6.1 to 6.4 of docs/HART.md.
 use mathlib.Core.List.{List}
 use Prim.Native.Nat.{ℕ}
 use Rattle.word.specs.Choice.{pick}

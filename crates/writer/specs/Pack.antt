@@ -1,4 +1,4 @@
--- The word of a family's numbers: its opcode and format, and the places that the family gives them.
+-- The word of a family's numbers: its opcode and format, and the places that the family gives them. Rule 12.11 of docs/HART.md.
 use Prim.Native.Nat.{ℕ, _+_, _*_, _/_, _%_, _^_}
 use Rattle.word.specs.Choice.{Table, _⇒_¦_, otherwise, look}
 use Rattle.numbers.specs.declared.Eight.{Eight}

@@ -1,4 +1,4 @@
--- What the writer promises, in the reader's terms: nothing here names a format, a table or a reach.
+-- What the writer promises, in the reader's terms: nothing here names a format, a table or a reach. Rules 12.6 and 12.7 of docs/HART.md.
 use mathlib.Core.Path.{_≡_}
 use Prim.Native.Nat.{ℕ, _^_, _<_}
 use Rattle.decoder.specs.Decode.{decodeOf}

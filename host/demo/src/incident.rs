@@ -7,7 +7,7 @@ use crate::outcome::{newton_metres, step_ms, Outcome, Sample};
 use crate::stray::{Stray, RA};
 use sporhulma::word;
 
-/// Causes of document 01, and the tval of a shadow-stack mismatch.
+/// Causes (docs/HART.md, 6.6), and the tval of a shadow-stack mismatch (8.5).
 const ECALL_FROM_U: u64 = 8;
 const SOFTWARE_CHECK: u64 = 18;
 const SHADOW_STACK: u64 = 3;

@@ -1,4 +1,4 @@
-//! Bits of CSRs, under document 01's names.
+//! Bits of CSRs, under the names of docs/HART.md, chapter 5.
 
 /// Of mstatus.
 pub const MPRV: u64 = 1 << 17;

@@ -1,4 +1,4 @@
-//! "From address to byte": document 01's nine rules in their order, for one access, told in words.
+//! "From address to byte": rules 7.1 to 7.9 of docs/HART.md in their order, for one access, told in words. Rule 5 here is 7.5 there.
 //!
 //! The hart's own answer is proved and decides. This is a second, plain reading of the same rules that keeps
 //! what it met on the way, so that a trap can be explained; `explain` compares the two and never hides a
@@ -142,7 +142,7 @@ fn effective_mode(hart: &Hart, kind: Kind) -> u64 {
     }
 }
 
-/// Whether rule 2 masks nothing, whatever the mode's PMM says: document 02's request A2.
+/// Whether rule 2 masks nothing, whatever the mode's PMM says (docs/HART.md, 7.2 e).
 fn lifts_masking(hart: &Hart, kind: Kind) -> bool {
     under_mprv(hart, kind) && hart.rest[word::MSTATUS] & MXR != 0
 }
@@ -334,7 +334,7 @@ impl Path {
 mod tests {
     use super::*;
 
-    /// Rows 1 to 4 of document 01's P table.
+    /// The worked case of docs/HART.md, 14.1.
     #[test]
     fn masking() {
         let address = 0xABFF_FFFF_1234_5678;
@@ -399,7 +399,7 @@ mod tests {
         end.map_or_else(|refused| (refused.rule, refused.cause), |_| (0, 0))
     }
 
-    /// Each refusal of the nine rules under its own number, and the causes that document 01 gives.
+    /// Each refusal of the nine rules under its own number, and the causes that docs/HART.md gives (7.3 to 7.10).
     #[test]
     #[rustfmt::skip]
     fn each_rule_has_its_number() {

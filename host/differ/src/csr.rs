@@ -1,4 +1,4 @@
-//! CSR instructions: every CSR of document 01, its neighbours and any address, with values that touch each field.
+//! CSR instructions: every CSR of docs/HART.md, 5.1, its neighbours and any address, with values that touch each field.
 
 use crate::maker::Maker;
 use crate::random::Random;

@@ -1,6 +1,6 @@
 //! Which frames of memory a user's program may reach at all (request A13): those that a valid entry with its U bit names.
 //!
-//! Written from step 5 of "From address to byte" of document 01; neither simulator is asked.
+//! Written from docs/HART.md, 7.5; neither simulator is asked.
 
 use crate::case::{BASE, PAGE};
 use crate::state::SSE;

@@ -1,4 +1,4 @@
-//! Document 01's "Easy slips", each planted in a wrapper of `second`: the generator and the comparison must find it.
+//! The easy slips of docs/HART.md, 14.7, each planted in a wrapper of `second`: the generator and the comparison must find it.
 //!
 //! The slips are planted where the word is handed in, so that a wrapper knows it; the masked fetch where it is fetched.
 

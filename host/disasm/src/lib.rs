@@ -1,5 +1,5 @@
 //! GNU-style text of an instruction word: what `objdump -d` prints for it, for every instruction
-//! the hart of document 01 has, with those of request A3.
+//! the hart has (docs/HART.md, chapter 3).
 //!
 //! The mnemonics, aliases (`li`, `mv`, `ret`, `beqz`, `csrr` ..) and register names are GNU's; a
 //! jump or branch target is a hexadecimal address. Three things differ from the objdump of Debian
@@ -11,7 +11,7 @@
 //!   instructions.
 //! - Zimop, Zicfiss and Zicfilp are unknown to 2.40; the spelling is that of release 2.44 (`mop.r.0
 //!   a0,a1`, `sspush ra`, `ssamoswap.d.aq a0,a1,(a2)`, `lpad 0x12345`). But 0xCDC04073, which 2.44
-//!   calls `ssrdp zero`, is `mop.r.28 zero,zero` here, since document 01 lets it read nothing; and
+//!   calls `ssrdp zero`, is `mop.r.28 zero,zero` here, since it reads nothing (docs/HART.md, 3.18); and
 //!   `ssamoswap.w`, which 2.44 knows for RV32 only, is spelled as `ssamoswap.d` is.
 //!
 //! `host/asm` reads each text back to its word. So does GNU as, with these exceptions: what 2.40 does not know; a fence

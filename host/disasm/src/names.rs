@@ -1,4 +1,4 @@
-//! The names of registers (ABI) and of the CSRs that document 01 lists.
+//! The names of registers (ABI) and of the CSRs that docs/HART.md, 5.1, lists.
 
 const REGISTERS: [&str; 32] = [
     "zero", "ra", "sp", "gp", "tp", "t0", "t1", "t2", "s0", "s1", "a0", "a1", "a2", "a3", "a4",

@@ -1,4 +1,4 @@
-//! Texts written by hand, with words taken from the manuals' tables and from document 01, not from
+//! Texts written by hand, with words taken from the manuals' tables and from docs/HART.md (3.18, chapter 14), not from
 //! the code. What GNU objdump and as say of many thousands of words is checked by `tools/outside`.
 
 use disasm::{csr_address, csr_name, csr_names, register, register_number, text};

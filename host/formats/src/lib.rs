@@ -95,7 +95,7 @@ pub fn signed12(imm: u64) -> u64 {
 mod tests {
     use super::*;
 
-    // Words of document 01 and, for the formats, of the GNU assembler.
+    // Words of docs/HART.md (3.18, chapter 14) and, for the formats, of the GNU assembler.
     #[test]
     fn the_words_of_document_01() {
         assert_eq!(push(1), 0xCE10_4073);

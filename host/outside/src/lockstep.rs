@@ -215,10 +215,10 @@ fn tally(report: &mut Report, side: &Side) {
 /// Where QEMU's tval or count and ours differ by a choice that is known.
 #[derive(Clone, Copy, PartialEq, Eq, Debug)]
 enum Choice {
-    /// EBREAK: the manual allows pc and 0. Document 01 has pc, QEMU 7.2 has 0.
+    /// EBREAK: the manual allows pc and 0. The hart has pc (docs/HART.md, 4.25), QEMU 7.2 has 0.
     Breakpoint,
-    /// A JAL or branch to a misaligned target: the manual has the target or 0. Document 01 has the
-    /// target; QEMU 7.2 has the jump's own pc, which is its mistake.
+    /// A JAL or branch to a misaligned target: the manual has the target or 0. The hart has the
+    /// target (docs/HART.md, 4.20); QEMU 7.2 has the jump's own pc, which is its mistake.
     MisalignedTarget,
     /// CTZW of a lower half of 0 under one that is not: the manual has 32. QEMU 7.2 has the trailing
     /// zeros of all 64 bits, which is its mistake.

@@ -1,4 +1,4 @@
-//! Where the fields of the CSRs lie, as document 01 lists them, and which bits a write can set.
+//! Where the fields of the CSRs lie, as docs/HART.md lists them (5.5 to 5.21), and which bits a write can set.
 
 pub const SIE: u64 = 1 << 1;
 pub const MIE: u64 = 1 << 3;

@@ -1,6 +1,6 @@
 //! The second simulator: one RV64 hart with M, S and U modes, landing pads, shadow stack and pointer masking.
 //!
-//! It is written from document 01, the requests of document 02 and the RISC-V manuals, and not from the
+//! It is written from the rules (docs/HART.md) and the RISC-V manuals, and not from the
 //! proved simulator, so that the two can be held against each other. It works by reference: a call changes the hart and the
 //! memory that it is lent. The calls are in `run`, loading a text in Intel HEX is in `hex`, an instruction as eight numbers in `read` and `write`; the other files hold one subject each.
 

@@ -1,4 +1,4 @@
-//! From address to byte: the nine steps of document 01, in their order.
+//! From address to byte: rules 7.1 to 7.9 of docs/HART.md, in their order. Step 5 here is rule 7.5.
 //!
 //! The result is the place in memory of the first byte of the access, or the trap. The trap's tval is
 //! the transformed address; a fetch is not transformed, so there it is the plain one.
@@ -126,7 +126,7 @@ fn effective_mode(h: &Hart, access: Access) -> u64 {
     }
 }
 
-/// Step 2: how many upper bits are masked in this mode. Request A2 of document 02 (section 2.6 of source document 000):
+/// Step 2: how many upper bits are masked in this mode. docs/HART.md, 7.2 e (Pointer Masking 1.0.0-rc1, section 2.6):
 /// none where MPRV decides while MXR is set too, so that M can read with the rights of a fetch, which is not masked
 /// either; whatever mode MPP names, and also where it names M.
 fn masked_bits(h: &Hart, access: Access, mode: u64) -> u32 {

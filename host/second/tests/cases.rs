@@ -1,4 +1,4 @@
-//! Document 01's own tables: "Cases", "Run also" and "Easy slips".
+//! The worked cases and easy slips of docs/HART.md, chapter 14.
 
 mod common;
 use common::*;

@@ -1,6 +1,6 @@
 //! Why a step trapped, in words and as facts for programs.
 //!
-//! `expected` goes through a step in document 01's order (fetch, landing pad, decoding, the instruction) on the
+//! `expected` goes through a step in the order of docs/HART.md, 10.1 (fetch, landing pad, decoding, the instruction) on the
 //! state before it, and finds the trap and its reason. What the proved hart gave decides: where the two differ,
 //! the explanation says so and gives no reason.
 

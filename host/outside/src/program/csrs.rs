@@ -2,8 +2,8 @@
 //! values that both take alike.
 //!
 //! Not written, since the two may differ there and each be right: epc with bits 1:0 set and tvec in
-//! another mode than direct (the hart has no such bits), MPP 2, bits that document 01 does not
-//! name, and satp, menvcfg, senvcfg, mseccfg and ssp, which QEMU 7.2 has otherwise or not at all.
+//! another mode than direct (the hart has no such bits), MPP 2, bits that docs/HART.md does not
+//! name (5.20), and satp, menvcfg, senvcfg, mseccfg and ssp, which QEMU 7.2 has otherwise or not at all.
 //! Below a CSR's mode each access must be illegal on both sides.
 
 use super::body::{holder, source, target};
