@@ -79,7 +79,7 @@ fn wrote(x: &mut [u64; 32], rd: usize, v: u64, next: u64) -> Acted
 }
 
 // Done: rd takes v, and pc goes on at the next instruction.
-fn computed(x: &mut [u64; 32], rd: usize, v: u64, pc: u64) -> Acted
+pub fn computed(x: &mut [u64; 32], rd: usize, v: u64, pc: u64) -> Acted
     requires { ⌜ rd < 32 ⌝ }
     ensures { λ r. ⌜ (r ≡ record { done = true; pc = nextOf pc; stored = 0 }) × (now (x .exit) ≡ putOf rd v (now (x .entry))) ⌝ }
 {

@@ -3,17 +3,27 @@ use isa::Instruction;
 use word::field;
 use word::immediate;
 ghost use mathlib.Core.Path.{_≡_};
-ghost use Rattle.decoder.specs.Decode.{decodeOf};
+ghost use Rattle.decoder.specs.Decode.{decodeOf, privilegedOf};
 
 // The shadow stack's swap and the words of Zimop.
 mod cfi;
 // ECALL, EBREAK, the returns and the CSR instructions.
 mod system;
 
-// The instruction that a word names. Each arm takes the word apart for itself: split before the match, every field of every word
+// Whether a word is an environment call, a breakpoint, a return or a CSR instruction, or nothing: all of SYSTEM but what Zimop has.
+pub fn privileged(w: u32) -> bool
+    ensures { λ r. ⌜ r ≡ privilegedOf w ⌝ }
+{
+    if w % 128 == 0b1110011 {
+        return !(w / 4096 % 8 == 0b100);
+    }
+    false
+}
+
+// The instruction that another word names. Each arm takes the word apart for itself: split before the match, every field of every word
 // would be computed, and in an arm the compiler keeps only those that the arm uses.
-pub fn decode(w: u32) -> Instruction
-    ensures { λ r. ⌜ r ≡ decodeOf w ⌝ }
+pub fn plain(w: u32) -> Instruction
+    ensures { λ r. ⌜ (privilegedOf w ≡ false → r ≡ decodeOf w) ⌝ }
 {
     match w % 128 {
         0b0110111 => Instruction::Lui(field::split(w).rd, immediate::imm_u(w)),
@@ -29,7 +39,18 @@ pub fn decode(w: u32) -> Instruction
         0b0111011 => base::op_32(field::split(w)),
         0b0001111 => base::misc_mem(w, field::split(w)),
         0b0101111 => cfi::swap(field::split(w)),
-        0b1110011 => system::system(w, field::split(w)),
+        0b1110011 => cfi::zimop(w, field::split(w)),
         _ => Instruction::Illegal,
     }
+}
+
+// The instruction that a word names. SYSTEM stands apart: most of what goes the slow path is there, and `plain`, which the fast path calls too, is too
+// large to be compiled into both (docs/SPEED.md).
+pub fn decode(w: u32) -> Instruction
+    ensures { λ r. ⌜ r ≡ decodeOf w ⌝ }
+{
+    if w % 128 == 0b1110011 {
+        return system::system(w, field::split(w));
+    }
+    plain(w)
 }

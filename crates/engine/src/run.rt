@@ -1,7 +1,6 @@
-// A run: steps up to and including the first that traps, or until the budget is spent. A turn of the loop lets the quick way and the fast path take as
-// many steps as they do, and then takes one the slow way, by its effect.
+// A run: steps up to and including the first that traps, or until the budget is spent. Its first steps go the short way, and the others by turns on the
+// fast path and the short way.
 use address::control;
-use fast::FIRST;
 use hart::Hart;
 use hart::step;
 use meaning::Context;
@@ -12,6 +11,7 @@ ghost use mathlib.Core.Path.{_≡_};
 ghost use Prim.Native.Nat.{_^_, _≤_};
 ghost use lib.ListN.{length};
 ghost use Rattle.meaning.specs.Context.{Knows};
+ghost use Rattle.meaning.specs.declared.Source.the-variants.{Fetch};
 ghost use Rattle.words.specs.Setting.{settingOf};
 ghost use Rattle.hart.specs.Hart.{hart};
 ghost use Rattle.hart.specs.Run.{runFrom};
@@ -45,8 +45,9 @@ fn known(w: &[u64; COUNT]) -> Context
     }
 }
 
-// The first step takes its word from `source`, the others fetch.
-pub fn run(
+// A run of few steps: the quick way takes as many as it does, and then one goes the slow way, by its effect. The first step takes its word from
+// `source`, the others fetch.
+fn short(
     x: &mut [u64; 32],
     w: &mut [u64; COUNT],
     source: Source,
@@ -64,11 +65,8 @@ pub fn run(
     let mut from = source;
     let mut left = budget;
     let mut k = known(w);
-    let mut wait = FIRST;
     while 0 < left {
-        let g = fast::go(x, w, from, k, mem, map, left, wait);
-        left = g.left;
-        wait = g.wait;
+        left = glide::glide(x, w, from, k, mem, map, left);
         if left == 0 {
             return report(budget, false, 0);
         }
@@ -82,11 +80,92 @@ pub fn run(
             k = known(w);
             continue;
         }
-        let h = fast::again(x, w, k.setting, mem, map, left, wait);
-        left = h.left;
-        wait = h.wait;
     }
     report(budget, false, 0)
+}
+
+// How many steps are taken the short way before the memo is worth its clearing (docs/SPEED.md).
+const FIRST: u64 = 1024;
+
+// How many steps of the fast path are many beside its clearing.
+const FAR: u64 = 32768;
+
+// The smaller of the two.
+fn few(a: u64, b: u64) -> u64
+    ensures { λ r. ⌜ (r ≤ a) × (r ≤ b) ⌝ }
+{
+    if a < b {
+        return a;
+    }
+    b
+}
+
+// How many steps go the short way after so many on the fast path. Where those were many it may be tried again behind the one that it left.
+fn pause(steps: u64) -> u64
+    ensures { λ r. ⌜ 0 < r ⌝ }
+{
+    if FAR < steps {
+        return 1;
+    }
+    FIRST
+}
+
+// A run of many steps, on the fast path as long as it goes. That is called from two places, so that the compiler leaves its memo out of the frame of
+// short runs, which would pay for it.
+fn long(
+    x: &mut [u64; 32],
+    w: &mut [u64; COUNT],
+    mem: &mut [u8],
+    map: &[u64],
+    budget: u64,
+) -> Told
+    requires { ⌜ length (now mem) ≤ 2 ^ 20 ⌝ }
+    ensures answer { λ r. ⌜ r ≡ toldOf (runFrom Fetch budget (hart (now (x .entry)) (now (w .entry))) (now (mem .entry)) (now (map .entry))) ⌝ }
+    ensures hart { λ _. ⌜ hart (now (x .exit)) (now (w .exit))
+        ≡ runFrom Fetch budget (hart (now (x .entry)) (now (w .entry))) (now (mem .entry)) (now (map .entry)) .hart ⌝ }
+    ensures memory { λ _. ⌜ now (mem .exit) ≡ runFrom Fetch budget (hart (now (x .entry)) (now (w .entry))) (now (mem .entry))
+        (now (map .entry)) .memory ⌝ }
+{
+    let mut left = fast::fast(x, w, mem, map, budget);
+    let mut steps = budget - left;
+    while 0 < left {
+        let n = few(left, pause(steps));
+        let t = short(x, w, Source::Fetch, mem, map, n);
+        if t.trapped {
+            return report(budget - left + t.count, true, t.cause);
+        }
+        let rest = fast::fast(x, w, mem, map, left - n);
+        steps = left - n - rest;
+        left = rest;
+    }
+    report(budget, false, 0)
+}
+
+pub fn run(
+    x: &mut [u64; 32],
+    w: &mut [u64; COUNT],
+    source: Source,
+    mem: &mut [u8],
+    map: &[u64],
+    budget: u64,
+) -> Told
+    requires { ⌜ length (now mem) ≤ 2 ^ 20 ⌝ }
+    ensures answer { λ r. ⌜ r ≡ toldOf (runFrom source budget (hart (now (x .entry)) (now (w .entry))) (now (mem .entry)) (now (map .entry))) ⌝ }
+    ensures hart { λ _. ⌜ hart (now (x .exit)) (now (w .exit))
+        ≡ runFrom source budget (hart (now (x .entry)) (now (w .entry))) (now (mem .entry)) (now (map .entry)) .hart ⌝ }
+    ensures memory { λ _. ⌜ now (mem .exit) ≡ runFrom source budget (hart (now (x .entry)) (now (w .entry))) (now (mem .entry))
+        (now (map .entry)) .memory ⌝ }
+{
+    let first = few(budget, FIRST);
+    let t = short(x, w, source, mem, map, first);
+    if t.trapped {
+        return t;
+    }
+    if budget == first {
+        return t;
+    }
+    let u = long(x, w, mem, map, budget - first);
+    report(first + u.count, u.trapped, u.cause)
 }
 
 // What a run of a hart by value hands back.

@@ -4,12 +4,11 @@
 //
 // The memo and the remembered pages are locals of `fast`, which has one setting: where that changes it has ended, and what was remembered is gone.
 use address::Virtual;
-use decoder::decode;
+use decoder::plain;
+use decoder::privileged;
 use form::Form;
 use form::Op;
 use glide::Glided;
-use meaning::Context;
-use meaning::Source;
 use pages::COUNT as PAGES;
 use place::Place;
 use place::steps::fetch;
@@ -18,6 +17,7 @@ use word::sum;
 use words::COUNT;
 use words::ELP;
 use words::PC;
+use words::setting;
 use words::sized;
 ghost use mathlib.Core.Bool.{true, false};
 ghost use mathlib.Core.List.{List};
@@ -33,7 +33,6 @@ ghost use Rattle.regime.specs.declared.Setting as setting;
 ghost use Rattle.meaning.specs.Instruction.{nextOf, executeOf};
 ghost use Rattle.words.specs.Words.{_of_, MODE};
 ghost use Rattle.handler.specs.Handler.{Handles};
-ghost use Rattle.meaning.specs.Context.{Knows};
 ghost use Rattle.meaning.specs.declared.Source.the-variants.{Fetch};
 ghost use Rattle.words.specs.Setting.{settingOf};
 ghost use Rattle.hart.specs.Hart.{hart};
@@ -44,23 +43,27 @@ ghost use Rattle.fast.specs.Memo.{indexAt, Read, numsWith, bytesWith, Fe
 // Addresses, indices and numbers of 4,096 entries.
 const NUMS: usize = 12288;
 
-// Three registers of 4,096 entries, and a flag for each frame.
-const BYTES: usize = 12544;
+// Three registers of 4,096 entries, whether each is a sum, and a flag for each frame.
+const BYTES: usize = 16640;
 
 // The address of an empty entry, which no word has. Its bytes are alike, so that the memo is cleared by one fill.
 const EMPTY: u64 = 0x0101_0101_0101_0101;
-
-// How many steps the quick way takes in all before the memo is worth its clearing (docs/SPEED.md).
-pub const FIRST: u64 = 1024;
-
-// How many steps of the fast path are many beside its clearing.
-const FAR: u64 = 32768;
 
 // What stands at an address, if a fetch there has a place: the index of the word, and its form.
 pub struct Known {
     pub there: bool,
     pub at: usize,
     pub form: Form,
+}
+
+// A word's form. A privileged one has none, so that it need not be decoded.
+fn of_word(w: u32, pc: u64, s: Setting) -> Form
+    ensures { λ r. ⌜ Means r (decodeOf w) w pc s × (r .rd < 32) × (r .rs1 < 32) × (r .rs2 < 32) ⌝ }
+{
+    if privileged(w) {
+        return form::left();
+    }
+    form::formed(plain(w), pc, s)
 }
 
 fn read(pc: u64, s: Setting, mem: &[u8], map: &[u64]) -> Known
@@ -71,27 +74,29 @@ fn read(pc: u64, s: Setting, mem: &[u8], map: &[u64]) -> Known
     match fetch(c, Virtual(pc), map, mem) {
         Place::At(q) => {
             let at = q.index();
-            let f = form::formed(decode(memory::word(mem, at)), pc, s);
+            let f = of_word(memory::word(mem, at), pc, s);
             Known {
                 there: true,
                 at,
                 form: f,
             }
         }
-        Place::Fault(_, _) => {
-            let f = Form {
-                op: Op::Left,
-                rd: 0,
-                rs1: 0,
-                rs2: 0,
-                value: 0,
-            };
-            Known {
-                there: false,
-                at: 0,
-                form: f,
-            }
-        }
+        Place::Fault(_, _) => Known {
+            there: false,
+            at: 0,
+            form: form::left(),
+        },
+    }
+}
+
+// 1 for a sum, which is what programs do most: the loop asks for it before the jump that all others share, since the processor foresees a branch
+// better than where that jump goes (docs/SPEED.md).
+fn sums(op: Op) -> u8
+    ensures { λ r. ⌜ (r ≡ 1 → op ≡ Add) ⌝ }
+{
+    match op {
+        Op::Add => 1,
+        _ => 0,
     }
 }
 
@@ -108,12 +113,13 @@ fn fill(nums: &mut [u64; NUMS], bytes: &mut [u8; BYTES], pc: u64, at: usize, f: 
     bytes[k] = f.rd;
     bytes[k + 4096] = f.rs1;
     bytes[k + 8192] = f.rs2;
-    bytes[at / 4096 + 12288] = 1;
+    bytes[k + 12288] = sums(f.op);
+    bytes[at / 4096 + 16384] = 1;
 }
 
 // The checker knows an array's length where it is passed by value, and not behind a reference. Nothing is left of this when it is compiled.
 fn measured(nums: [u64; NUMS], bytes: [u8; BYTES])
-    ensures { λ _. ⌜ (length nums ≡ 12288) × (length bytes ≡ 12544) ⌝ }
+    ensures { λ _. ⌜ (length nums ≡ 12288) × (length bytes ≡ 16640) ⌝ }
 {}
 
 // Reads the word at pc into its entry, all but its operation, which the caller stores.
@@ -129,7 +135,7 @@ fn enter(
     ensures read { λ r. ⌜ (r .there ≡ true → (r .at < 2 ^ 20) × Read (r .form) (r .at) pc s (now (mem .entry)) (now (map .entry))) ⌝ }
     ensures nums { λ r. ⌜ now (nums .exit) ≡ pick (r .there) (numsWith (now (nums .entry)) pc (r .at) (r .form .value)) (now (nums .entry)) ⌝ }
     ensures bytes { λ r. ⌜ now (bytes .exit) ≡ pick (r .there) (bytesWith (now (bytes .entry)) pc (r .at) (r .form)) (now (bytes .entry)) ⌝ }
-    ensures lengths { λ _. ⌜ (length (now (nums .entry)) ≡ 12288) × (length (now (bytes .entry)) ≡ 12544) ⌝ }
+    ensures lengths { λ _. ⌜ (length (now (nums .entry)) ≡ 12288) × (length (now (bytes .entry)) ≡ 16640) ⌝ }
 {
     measured(*nums, *bytes);
     let e = read(pc, s, mem, map);
@@ -174,7 +180,7 @@ fn empty(nums: &mut [u64; NUMS], bytes: &[u8; BYTES], stored: usize)
         return;
     }
     let at = stored - 1;
-    if bytes[at / 4096 + 12288] == 0 {
+    if bytes[at / 4096 + 16384] == 0 {
         return;
     }
     forget(nums, (at / 8) as u64);
@@ -256,6 +262,14 @@ fn steps(
                 return Glided { pc, left };
             }
         }
+        if bytes[k + 12288] == 1 {
+            let b = sum::sum(value(x, &bytes, k + 8192), number(&nums, k + 8192));
+            let v = sum::sum(value(x, &bytes, k + 4096), b);
+            let t = act::computed(x, register(&bytes, k), v, pc);
+            pc = t.pc;
+            left = left - 1;
+            continue;
+        }
         let op = ops[k];
         let t = act::act(
             op,
@@ -287,28 +301,6 @@ fn steps(
     Glided { pc, left }
 }
 
-// A stretch of a run: what is left of the budget, and how many steps the quick way is to take before the fast path is tried.
-pub struct Went {
-    pub left: u64,
-    pub wait: u64,
-}
-
-fn ended(left: u64, wait: u64) -> Went
-    ensures { λ r. ⌜ r ≡ record { left = left; wait = wait } ⌝ }
-{
-    Went { left, wait }
-}
-
-// Where the fast path took many steps it may be tried again at once: clearing the memo is little beside them.
-fn pause(steps: u64) -> u64
-    ensures { λ r. ⌜ r ≤ 4096 ⌝ }
-{
-    if FAR < steps {
-        return 0;
-    }
-    FIRST
-}
-
 // Whether the fast path can begin: no landing pad is expected, register 0 is 0, and pc a multiple of 4.
 fn open(elp: u64, zero: u64, pc: u64) -> bool
     ensures { λ r. ⌜ (r ≡ true → (elp ≡ 0) × (zero ≡ 0) × (pc % 4 ≡ 0)) ⌝ }
@@ -321,118 +313,25 @@ fn open(elp: u64, zero: u64, pc: u64) -> bool
     false
 }
 
-// The fast path, which clears its memo first. It is called from two places, so that the compiler leaves it out of the run's loop: short runs would pay
-// for it (docs/SPEED.md).
-fn long(
+// As many steps as the fast path takes, which clears its memo first; what is left of the budget.
+pub fn fast(
     x: &mut [u64; 32],
     w: &mut [u64; COUNT],
-    s: Setting,
     mem: &mut [u8],
     map: &[u64],
     budget: u64,
-) -> Went
-    requires { ⌜ (length (now mem) ≤ 2 ^ 20) × (s ≡ settingOf (now w)) ⌝ }
-    ensures steps { λ r. ⌜ Midway (runFrom Fetch budget (hart (now (x .entry)) (now (w .entry))) (now (mem .entry)) (now (map .entry))) budget
-        (r .left) Fetch (hart (now (x .exit)) (now (w .exit))) (now (mem .exit)) (now (map .entry)) ⌝ }
-    ensures setting { λ _. ⌜ settingOf (now (w .exit)) ≡ settingOf (now (w .entry)) ⌝ }
+) -> u64
+    requires { ⌜ length (now mem) ≤ 2 ^ 20 ⌝ }
+    ensures { λ r. ⌜ Midway (runFrom Fetch budget (hart (now (x .entry)) (now (w .entry))) (now (mem .entry)) (now (map .entry))) budget
+        r Fetch (hart (now (x .exit)) (now (w .exit))) (now (mem .exit)) (now (map .entry)) ⌝ }
 {
     sized(*w);
     let pc = w[PC];
     if open(w[ELP], x[0], pc) {
+        let s = setting::setting(w);
         let g = steps(x, w, pc, s, mem, map, budget);
         w[PC] = g.pc;
-        return ended(g.left, pause(budget - g.left));
+        return g.left;
     }
-    ended(budget, FIRST)
-}
-
-// The smaller of the two.
-fn few(budget: u64, wait: u64) -> u64
-    ensures { λ r. ⌜ r ≤ budget ⌝ }
-{
-    if budget < wait {
-        return budget;
-    }
-    wait
-}
-
-// Whether the quick way took all of its steps, and more are to come.
-fn over(left: u64, first: u64, budget: u64) -> bool
-    ensures { λ r. ⌜ (r ≡ true → left ≡ 0) ⌝ }
-{
-    if left == 0 {
-        return first < budget;
-    }
-    false
-}
-
-// What is left to wait after some steps. A function of its own, since nothing has to be known of it.
-fn less(wait: u64, steps: u64) -> u64
-    ensures { λ r. ⌜ r ≤ wait ⌝ }
-{
-    if steps < wait {
-        return wait - steps;
-    }
-    0
-}
-
-// Whether the next step has to go the slow way first: its word is given, a landing pad is expected, or the fast path left it.
-fn held(source: Source, elp: u64, wait: u64) -> bool
-    ensures { λ r. ⌜ (r ≡ false → (source ≡ Fetch) × (elp ≡ 0)) ⌝ }
-{
-    if wait == 0 {
-        return true;
-    }
-    glide::waits(source, elp)
-}
-
-// As many steps as are to be waited the quick way, and then, if it did not have to leave one, the fast path.
-pub fn go(
-    x: &mut [u64; 32],
-    w: &mut [u64; COUNT],
-    source: Source,
-    k: Context,
-    mem: &mut [u8],
-    map: &[u64],
-    budget: u64,
-    wait: u64,
-) -> Went
-    requires { ⌜ (length (now mem) ≤ 2 ^ 20) × Knows k (settingOf (now w)) ⌝ }
-    ensures steps { λ r. ⌜ Midway (runFrom source budget (hart (now (x .entry)) (now (w .entry))) (now (mem .entry)) (now (map .entry))) budget
-        (r .left) source (hart (now (x .exit)) (now (w .exit))) (now (mem .exit)) (now (map .entry)) ⌝ }
-    ensures setting { λ _. ⌜ settingOf (now (w .exit)) ≡ settingOf (now (w .entry)) ⌝ }
-{
-    sized(*w);
-    if held(source, w[ELP], wait) {
-        return ended(budget, wait);
-    }
-    let pc = w[PC];
-    let first = few(budget, wait);
-    let g = glide::steps(x, w, pc, k, mem, map, first);
-    w[PC] = g.pc;
-    if over(g.left, first, budget) {
-        return long(x, w, k.setting, mem, map, budget - first);
-    }
-    ended(budget - (first - g.left), less(wait, first - g.left))
-}
-
-// After a step that went the slow way: on the fast path again at once, if nothing is to be waited.
-pub fn again(
-    x: &mut [u64; 32],
-    w: &mut [u64; COUNT],
-    s: Setting,
-    mem: &mut [u8],
-    map: &[u64],
-    budget: u64,
-    wait: u64,
-) -> Went
-    requires { ⌜ (length (now mem) ≤ 2 ^ 20) × (s ≡ settingOf (now w)) ⌝ }
-    ensures steps { λ r. ⌜ Midway (runFrom Fetch budget (hart (now (x .entry)) (now (w .entry))) (now (mem .entry)) (now (map .entry))) budget
-        (r .left) Fetch (hart (now (x .exit)) (now (w .exit))) (now (mem .exit)) (now (map .entry)) ⌝ }
-    ensures setting { λ _. ⌜ settingOf (now (w .exit)) ≡ settingOf (now (w .entry)) ⌝ }
-{
-    if wait == 0 {
-        return long(x, w, s, mem, map, budget);
-    }
-    ended(budget, wait)
+    budget
 }

@@ -213,7 +213,7 @@ fn store(n: Width) -> Op
     }
 }
 
-fn left() -> Form
+pub fn left() -> Form
     ensures { λ r. ⌜ r ≡ record { op = Left; rd = 0; rs1 = 0; rs2 = 0; value = 0 } ⌝ }
 {
     make(Op::Left, 0, 0, 0, 0)

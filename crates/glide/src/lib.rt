@@ -8,6 +8,9 @@ use place::window::Window;
 use quick::opcodes;
 use word::sum;
 use words::COUNT;
+use words::ELP;
+use words::PC;
+use words::sized;
 ghost use mathlib.Core.Bool.{false};
 ghost use mathlib.Core.Path.{_≡_};
 ghost use Prim.Native.Nat.{_^_, _≤_};
@@ -16,6 +19,8 @@ ghost use Rattle.place.specs.Window.{Shows};
 ghost use Rattle.meaning.specs.Context.{Knows};
 ghost use Rattle.meaning.specs.declared.Source.the-variants.{Fetch};
 ghost use Rattle.words.specs.Setting.{settingOf};
+ghost use Rattle.hart.specs.Hart.{hart};
+ghost use Rattle.hart.specs.Run.{runFrom, Midway};
 ghost use Rattle.glide.specs.Glide.{Straight, Fetches, Turned, Glides};
 
 // pc after the steps taken, and what is left of the budget.
@@ -105,7 +110,7 @@ fn stretch(
 }
 
 // From window to window. A step that its window covers and that was not taken has to go the whole way.
-pub fn steps(
+fn steps(
     x: &mut [u64; 32],
     w: &mut [u64; COUNT],
     start: u64,
@@ -138,11 +143,36 @@ pub fn steps(
 }
 
 // Whether the next step has to go the whole way: its word is given, or a landing pad is expected.
-pub fn waits(source: Source, elp: u64) -> bool
+fn waits(source: Source, elp: u64) -> bool
     ensures { λ r. ⌜ (r ≡ false → (source ≡ Fetch) × (elp ≡ 0)) ⌝ }
 {
     match source {
         Source::Fetch => 0 < elp,
         Source::Given(_) => true,
     }
+}
+
+// As many steps as the quick way takes; what is left of the budget.
+pub fn glide(
+    x: &mut [u64; 32],
+    w: &mut [u64; COUNT],
+    source: Source,
+    k: Context,
+    mem: &mut [u8],
+    map: &[u64],
+    budget: u64,
+) -> u64
+    requires { ⌜ (length (now mem) ≤ 2 ^ 20) × Knows k (settingOf (now w)) ⌝ }
+    ensures steps { λ r. ⌜ Midway (runFrom source budget (hart (now (x .entry)) (now (w .entry))) (now (mem .entry)) (now (map .entry))) budget r
+        source (hart (now (x .exit)) (now (w .exit))) (now (mem .exit)) (now (map .entry)) ⌝ }
+    ensures setting { λ _. ⌜ settingOf (now (w .exit)) ≡ settingOf (now (w .entry)) ⌝ }
+{
+    sized(*w);
+    if waits(source, w[ELP]) {
+        return budget;
+    }
+    let pc = w[PC];
+    let g = steps(x, w, pc, k, mem, map, budget);
+    w[PC] = g.pc;
+    g.left
 }
