@@ -1,2 +1,3 @@
 -- Theorems about the definitions that belong to no one function.
 pub mod Examples
+pub mod Zimops

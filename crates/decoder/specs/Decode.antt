@@ -1,9 +1,9 @@
 -- The instruction that a word names: the manual's map of major opcodes. Every word that no row has is illegal, among them each whose low two bits are
 -- not 11. Rules 3.3 and 3.20 of docs/HART.md.
-use mathlib.Core.Bool.{Bool, false, not}
+use mathlib.Core.Bool.{Bool, _&&_, not}
 use Prim.Native.Nat.{ℕ}
 use lib.Dec.{eqb}
-use Rattle.word.specs.Choice.{pick, Table, _⇒_¦_, otherwise, look}
+use Rattle.word.specs.Choice.{Table, _⇒_¦_, otherwise, look}
 use Rattle.word.specs.Field.{bits, opcode, fieldsOf}
 use Rattle.word.specs.Immediate.{immI, immS, immB, immU, immJ}
 use Rattle.word.specs.declared.field.Fields.{Fields}
@@ -37,4 +37,4 @@ decodeOf w = look (opcode w) (opcodes w (fieldsOf w))
 
 -- SYSTEM without Zimop: environment calls, breakpoints, returns and CSR instructions, and what is illegal beside them
 abbrev pub privilegedOf : ℕ → Bool
-privilegedOf w = pick (eqb (opcode w) 0b1110011) (not (eqb (bits w 14 12) 0b100)) false
+privilegedOf w = eqb (opcode w) 0b1110011 && not (eqb (bits w 14 12) 0b100)

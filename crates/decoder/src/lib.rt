@@ -1,7 +1,9 @@
 // The reader of instruction words: the major opcodes here, RV64I's words in crate `base`, the others' in the modules below.
 use isa::Instruction;
+use word::choice;
 use word::field;
 use word::immediate;
+ghost use mathlib.Core.Bool.{false};
 ghost use mathlib.Core.Path.{_≡_};
 ghost use Rattle.decoder.specs.Decode.{decodeOf, privilegedOf};
 
@@ -14,10 +16,7 @@ mod system;
 pub fn privileged(w: u32) -> bool
     ensures { λ r. ⌜ r ≡ privilegedOf w ⌝ }
 {
-    if w % 128 == 0b1110011 {
-        return !(w / 4096 % 8 == 0b100);
-    }
-    false
+    choice::both(w % 128 == 0b1110011, !(w / 4096 % 8 == 0b100))
 }
 
 // The instruction that another word names. Each arm takes the word apart for itself: split before the match, every field of every word

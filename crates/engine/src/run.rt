@@ -112,13 +112,7 @@ fn pause(steps: u64) -> u64
 
 // A run of many steps, on the fast path as long as it goes. That is called from two places, so that the compiler leaves its memo out of the frame of
 // short runs, which would pay for it.
-fn long(
-    x: &mut [u64; 32],
-    w: &mut [u64; COUNT],
-    mem: &mut [u8],
-    map: &[u64],
-    budget: u64,
-) -> Told
+fn long(x: &mut [u64; 32], w: &mut [u64; COUNT], mem: &mut [u8], map: &[u64], budget: u64) -> Told
     requires { ⌜ length (now mem) ≤ 2 ^ 20 ⌝ }
     ensures answer { λ r. ⌜ r ≡ toldOf (runFrom Fetch budget (hart (now (x .entry)) (now (w .entry))) (now (mem .entry)) (now (map .entry))) ⌝ }
     ensures hart { λ _. ⌜ hart (now (x .exit)) (now (w .exit))
