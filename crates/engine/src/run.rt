@@ -8,7 +8,7 @@ use meaning::Source;
 use words::COUNT;
 use words::setting;
 ghost use mathlib.Core.Path.{_≡_};
-ghost use Prim.Native.Nat.{_^_, _≤_};
+ghost use Prim.Native.Nat.{_^_, _<_, _≤_};
 ghost use lib.ListN.{length};
 ghost use Rattle.meaning.specs.Context.{Knows};
 ghost use Rattle.meaning.specs.declared.Source.the-variants.{Fetch};
@@ -90,9 +90,9 @@ const FIRST: u64 = 1024;
 // How many steps of the fast path are many beside its clearing.
 const FAR: u64 = 32768;
 
-// The smaller of the two.
+// The smaller of the two, and so not 0 where neither is.
 fn few(a: u64, b: u64) -> u64
-    ensures { λ r. ⌜ (r ≤ a) × (r ≤ b) ⌝ }
+    ensures { λ r. ⌜ (r ≤ a) × (r ≤ b) × (0 < a → 0 < b → 0 < r) ⌝ }
 {
     if a < b {
         return a;
@@ -112,13 +112,7 @@ fn pause(steps: u64) -> u64
 
 // A run of many steps, on the fast path as long as it goes. That is called from two places, so that the compiler leaves its memo out of the frame of
 // short runs, which would pay for it.
-fn long(
-    x: &mut [u64; 32],
-    w: &mut [u64; COUNT],
-    mem: &mut [u8],
-    map: &[u64],
-    budget: u64,
-) -> Told
+fn long(x: &mut [u64; 32], w: &mut [u64; COUNT], mem: &mut [u8], map: &[u64], budget: u64) -> Told
     requires { ⌜ length (now mem) ≤ 2 ^ 20 ⌝ }
     ensures answer { λ r. ⌜ r ≡ toldOf (runFrom Fetch budget (hart (now (x .entry)) (now (w .entry))) (now (mem .entry)) (now (map .entry))) ⌝ }
     ensures hart { λ _. ⌜ hart (now (x .exit)) (now (w .exit))
