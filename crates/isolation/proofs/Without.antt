@@ -120,7 +120,7 @@ record Computed : Type 0 where
 
 computed : Computed
 unfolding sessionOf stepFromCall refusalOf legal wordsLegal memory.refusedOf page.refusedOf page.pagesOf page.anyLarge page.riseFrom
-    page.strictlyRise stepFrom effectOf fetchedOf arrivedOf landedOf executeOf decodeOf base.loadOf system.systemOf accessOf passedOf atOf doneOf
+    page.strictlyRise stepFrom effectOf fetchedOf arrivedOf landedOf executeOf decodeOf base.decodeLoadOf system.systemOf accessOf passedOf atOf doneOf
     placeOf reachedOf control.modeOf transformedOf maskOf alignedOf pagedPlaceOf plainPlaceOf throughOf page.lookupOf settleOf judgeOf insideOf
     withinOf settingOf controlOf shadowOn padOn modeOf memoryWith front bytesOf number loadOf storeOf extendOf trapOf trapM enterM
 computed = record {

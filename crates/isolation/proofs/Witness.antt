@@ -186,7 +186,7 @@ pub record Computed : Type 0 where
 
 pub computed : Computed
 unfolding refusalOf legal wordsLegal memory.refusedOf page.refusedOf page.pagesOf page.anyLarge page.riseFrom page.strictlyRise effectOf fetchedOf
-    arrivedOf landedOf executeOf decodeOf base.loadOf base.storeOf accessOf passedOf atOf doneOf placeOf reachedOf control.modeOf transformedOf
+    arrivedOf landedOf executeOf decodeOf base.decodeLoadOf base.decodeStoreOf accessOf passedOf atOf doneOf placeOf reachedOf control.modeOf transformedOf
     maskOf alignedOf pagedPlaceOf throughOf page.lookupOf settleOf judgeOf insideOf withinOf settingOf controlOf shadowOn padOn modeOf memoryWith
     front bytesOf number loadOf storeOf extendOf
 computed = record { accepted = refl; first = refl; second = refl; third = refl; outside = refl; twice = refl; pointer = refl }

@@ -9,7 +9,7 @@ use Prim.Native.Nat.{ℕ, zero, suc, _*_, _^_}
 use native.Mathlib.Omega.{arith}
 use lib.ListN.{replicate}
 use Rattle.decoder.specs.Cfi.{zimopOf}
-use Rattle.decoder.specs.System.{systemOf, csrOf}
+use Rattle.decoder.specs.System.{systemOf, decodeCsrOf}
 use Rattle.decoder.specs.Decode.{decodeOf}
 use Rattle.memory.specs.Bytes.{bytesOf, number, loadOf, storeOf}
 use Rattle.memory.specs.Refusal as memory
@@ -132,7 +132,7 @@ pub record Effects : Type 0 where
   pub seventh : planOf Fetch hart₆ memory₃ map₀ ≡ Trap 18 3
 
 pub effects : Effects
-unfolding effectOf fetchedOf arrivedOf landedOf executeOf decodeOf systemOf csrOf zimopOf accessOf passedOf atOf doneOf poppedOf placeOf reachedOf
+unfolding effectOf fetchedOf arrivedOf landedOf executeOf decodeOf systemOf decodeCsrOf zimopOf accessOf passedOf atOf doneOf poppedOf placeOf reachedOf
     control.modeOf transformedOf maskOf alignedOf pagedPlaceOf throughOf page.lookupOf settleOf judgeOf insideOf withinOf settingOf controlOf
     shadowOn padOn modeOf memory₀ bytesOf number loadOf storeOf
 effects = record { first = refl; second = refl; third = refl; fourth = refl; fifth = refl; sixth = refl; seventh = refl }
@@ -206,7 +206,7 @@ pub record Applies : Type 0 where
   pub byte : Shadow (inForce hart₀) map₀ 0x1010
 
 pub applies : Applies
-unfolding fetchedOf decodeOf systemOf csrOf zimopOf placeOf reachedOf control.modeOf transformedOf maskOf alignedOf pagedPlaceOf throughOf
+unfolding fetchedOf decodeOf systemOf decodeCsrOf zimopOf placeOf reachedOf control.modeOf transformedOf maskOf alignedOf pagedPlaceOf throughOf
     page.lookupOf settleOf judgeOf insideOf withinOf settingOf controlOf shadowOn padOn modeOf memory₀ bytesOf number loadOf storeOf
 applies = record {
   third = record { word = 0xCDC2C073; rd = 0; rs1 = 5; rs2 = 0; off = 0; arrives = refl; passes = refl; reads = refl; register = refl };
