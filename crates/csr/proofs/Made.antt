@@ -6,7 +6,7 @@ use Prim.Native.Nat.{ℕ}
 use lib.Dec.{eqb}
 use borrow.Author.Tests.{eqb-true}
 use Rattle.word.proofs.Bools.{both}
-use Rattle.word.specs.Row.{legalOf, bitsOf, allFit, allSeen, wellMade}
+use Rattle.word.specs.Row.{rowLegalOf, bitsOf, allFit, allSeen, wellMade}
 use Rattle.csr.specs.Row.{rowOf, isView}
 use Rattle.csr.specs.declared.Csr.{Csr}
 use Rattle.csr.specs.declared.Csr.the-variants.{Ssp, Sstatus, Stvec, Senvcfg, Sscratch, Sepc, Scause, Stval, Satp, Mstatus, Medeleg, Mtvec}
@@ -58,7 +58,7 @@ all-seen Mtval e = refl
 all-seen Mseccfg e = refl
 
 -- what a CSR can hold does not depend on menvcfg.SSE
-pub alike : (n : Csr) (sse : Bool) (m : ℕ) → legalOf (rowOf n sse) m ≡ legalOf (rowOf n true) m
+pub alike : (n : Csr) (sse : Bool) (m : ℕ) → rowLegalOf (rowOf n sse) m ≡ rowLegalOf (rowOf n true) m
 alike Ssp sse m = refl
 alike Sstatus sse m = refl
 alike Stvec sse m = refl

@@ -171,7 +171,7 @@ record Computed : Type 0 where
 computed : Computed
 unfolding refusalOf legal wordsLegal memory.refusedOf page.refusedOf page.pagesOf page.anyLarge page.riseFrom page.strictlyRise stepFrom wholeOf
     csrOf writtenOf shownOf effectOf fetchedOf arrivedOf landedOf executeOf decodeOf base.decodeStoreOf swapOf system.systemOf system.decodeCsrOf zimopOf
-    csrs.csrOf csrs.reachedOf reachOf accessOf passedOf atOf doneOf placeOf reachedOf control.modeOf transformedOf maskOf alignedOf pagedPlaceOf
+    csrs.csrEffectOf csrs.csrReachedOf reachOf accessOf passedOf atOf doneOf placeOf reachedOf control.modeOf transformedOf maskOf alignedOf pagedPlaceOf
     plainPlaceOf throughOf page.lookupOf settleOf judgeOf insideOf withinOf settingOf controlOf shadowOn padOn modeOf memory₀ bytesOf number
     loadOf extendOf
 computed = record {

@@ -26,8 +26,8 @@ statusOf m = record {
 }
 
 -- UXL and SXL read 2
-abbrev pub wordOf : Status → ℕ
-wordOf s =
+abbrev pub statusWordOf : Status → ℕ
+statusWordOf s =
     num (s .sie) * 2 ^ 1 + num (s .mie) * 2 ^ 3 + num (s .spie) * 2 ^ 5 + num (s .mpie) * 2 ^ 7 + num (s .spp) * 2 ^ 8 + s .mpp * 2 ^ 11
     + num (s .mprv) * 2 ^ 17 + num (s .sum) * 2 ^ 18 + num (s .mxr) * 2 ^ 19 + num (s .spelp) * 2 ^ 23 + 2 * 2 ^ 32 + 2 * 2 ^ 34 + num
     (s .mpelp) * 2 ^ 41
@@ -48,12 +48,12 @@ withMpp s mode = record {
 }
 
 -- a write of v to mstatus over old: writing 2 to MPP keeps the old MPP
-abbrev pub mergedOf : (old v : Status) → Status
-mergedOf old v = withMpp v (pick (isMpp (v .mpp)) (v .mpp) (old .mpp))
+abbrev pub mstatusWrittenOf : (old v : Status) → Status
+mstatusWrittenOf old v = withMpp v (pick (isMpp (v .mpp)) (v .mpp) (old .mpp))
 
 -- a write of v to sstatus over s
-abbrev pub throughOf : (s v : Status) → Status
-throughOf s v = record {
+abbrev pub sstatusWrittenOf : (s v : Status) → Status
+sstatusWrittenOf s v = record {
   sie = v .sie;
   mie = s .mie;
   spie = v .spie;
