@@ -3,9 +3,9 @@
 use mathlib.Core.Path.{_≡_, refl, sym, ap, _∙_}
 use Prim.Native.Nat.{ℕ, _+_, _*_, _/_, _%_, _<_}
 use native.Mathlib.Omega.{arith}
-use Rattle.word.specs.Choice.{look, Missed}
+use Rattle.word.specs.Choice.{look}
 use Rattle.word.specs.Field.{fieldsOf}
-use Rattle.word.proofs.Tables.{hit, missed}
+use Rattle.word.proofs.Tables.{Missed, hit, missed}
 use Rattle.decoder.specs.Decode.{decodeOf, opcodes}
 use Rattle.decoder.specs.System.{systemOf, systems, decodeCsrOf, csrs}
 

@@ -13,7 +13,7 @@ use Rattle.word.specs.Choice.{pick}
 use Rattle.word.proofs.Either.{either}
 use Rattle.hex.specs.Line.{recordTypeOf, recordCountOf, recordAddressOf, dataOf, good}
 use Rattle.hex.specs.Load.{placed}
-use Rattle.hex.specs.Named.{names, dataAt}
+use Rattle.hex.proofs.Named.{names, dataAt}
 use Rattle.hex.proofs.Digits.{by-test}
 use Rattle.hex.proofs.Good.{data-length, data-inside, placed-other}
 

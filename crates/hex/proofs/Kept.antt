@@ -15,7 +15,7 @@ use Rattle.memory.specs.Refusal.{memoryRefusedOf}
 use Rattle.hex.specs.Lines.{linesOf}
 use Rattle.hex.specs.Line.{good}
 use Rattle.hex.specs.Load.{upperAfter, firstBad, noStart, placed, stored, answered, loadHexOf}
-use Rattle.hex.specs.Named.{names, someNames, upperAt, dataAt, byteAfter}
+use Rattle.hex.proofs.Named.{names, someNames, upperAt, dataAt, byteAfter}
 use Rattle.hex.specs.Inner.{allGood}
 use Rattle.hex.specs.declared.Loaded.{Loaded}
 use Rattle.hex.proofs.Bytes.{placed-byte, length-placed}

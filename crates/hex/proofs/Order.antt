@@ -11,7 +11,7 @@ use Rattle.word.proofs.Bools.{both}
 use Rattle.hex.specs.Lines.{linesOf}
 use Rattle.hex.specs.Line.{recordTypeOf, good}
 use Rattle.hex.specs.Load.{upperAfter, textAfter, firstBad, noStart, startAfter, lastStart, answered, loadHexOf}
-use Rattle.hex.specs.Named.{names, upperAt, dataAt, byteAfter}
+use Rattle.hex.proofs.Named.{names, upperAt, dataAt, byteAfter}
 use Rattle.hex.specs.Inner.{allGood}
 use Rattle.hex.specs.declared.line.Start.{Start}
 use Rattle.hex.specs.declared.Loaded.{Loaded}

@@ -5,11 +5,16 @@ use mathlib.Core.Bool.{Bool, true, false}
 use Prim.Native.Nat.{ℕ, zero, suc, _+_, _*_, _/_, _%_, _^_, _<_}
 use native.Mathlib.Omega.{arith}
 use lib.Dec.{eqb}
+use Rattle.word.specs.Choice.{pick}
 use Rattle.word.specs.Row.{rowWriteOf, rowReadOf, rowLegalOf}
 use Rattle.status.specs.Fields.{isMpp, mstatus, sstatus}
-use Rattle.status.specs.Status.{num, statusOf, statusWordOf, withMpp, mstatusWrittenOf, sstatusWrittenOf}
+use Rattle.status.specs.Status.{num, statusOf, statusWordOf, withMpp, sstatusWrittenOf}
 use Rattle.status.specs.declared.Status.{Status}
 use Rattle.word.proofs.Rows.{left, each, shown}
+
+-- a write of v to mstatus over old: writing 2 to MPP keeps the old MPP
+abbrev pub mstatusWrittenOf : (old v : Status) → Status
+mstatusWrittenOf old v = withMpp v (pick (isMpp (v .mpp)) (v .mpp) (old .mpp))
 
 parity : (d : ℕ) → d < 2 → num (eqb d 1) ≡ d
 parity zero h = refl

@@ -1,8 +1,6 @@
 -- mstatus as a struct of its fields, and what a write makes of it. Rules 5.5 to 5.8 of docs/HART.md.
 use mathlib.Core.Bool.{Bool, true, false}
 use Prim.Native.Nat.{ℕ, _+_, _*_, _/_, _%_, _^_}
-use Rattle.word.specs.Choice.{pick}
-use Rattle.status.specs.Fields.{isMpp}
 use Rattle.word.specs.Row.{bitOf}
 use Rattle.status.specs.declared.Status.{Status}
 
@@ -46,10 +44,6 @@ withMpp s mode = record {
   spelp = s .spelp;
   mpelp = s .mpelp;
 }
-
--- a write of v to mstatus over old: writing 2 to MPP keeps the old MPP
-abbrev pub mstatusWrittenOf : (old v : Status) → Status
-mstatusWrittenOf old v = withMpp v (pick (isMpp (v .mpp)) (v .mpp) (old .mpp))
 
 -- a write of v to sstatus over s
 abbrev pub sstatusWrittenOf : (s v : Status) → Status

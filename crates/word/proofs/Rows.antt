@@ -8,12 +8,45 @@ use Prim.Native.Nat.{ℕ, zero, suc, _+_, _*_, _/_, _%_, _^_, _<_}
 use native.Mathlib.Nat.{mod-lt, add-mul, mul-assoc, div-one, mul-one, mul-comm, add-comm, div-lt-iff-lt-mul}
 use native.Mathlib.Omega.{arith}
 use lib.Pow.{pow-pos, pow-add, shr-shr, split, high, low}
-use lib.Dec.{eqb}
+use lib.Dec.{eqb, ltb}
 use borrow.Author.Tests.{eq-eqb, eqb-true, ltb-true}
 use Rattle.word.specs.Choice.{pick}
 use Rattle.word.proofs.Bools.{both}
 use Rattle.word.specs.Row.{Field, Fixed, Covered, Any, Only, Hidden, fieldWidthOf, takesOf, showsOf, holdsOf, digit, writeFrom, readFrom, legalFrom}
-use Rattle.word.specs.Row.{rowWriteOf, rowReadOf, rowLegalOf, bitsOf, fits, allFit, seen, allSeen}
+use Rattle.word.specs.Row.{rowWriteOf, rowReadOf, rowLegalOf}
+
+abbrev pub bitsOf : List Field → ℕ
+bitsOf [] = 0
+bitsOf (f ∷ fs) = fieldWidthOf f + bitsOf fs
+
+-- a fixed value fits its field
+abbrev pub fits : Field → Bool
+fits (Fixed n k) = ltb k (2 ^ n)
+fits (Covered n k) = ltb k (2 ^ n)
+fits (Any n) = true
+fits (Only n ok) = true
+fits (Hidden n ok) = true
+
+abbrev pub allFit : List Field → Bool
+allFit [] = true
+allFit (f ∷ fs) = fits f && allFit fs
+
+-- a row is well made: its fields fit, and are 64 bits together, so that none of them overlap
+abbrev pub wellMade : List Field → Bool
+wellMade fs = allFit fs && eqb (bitsOf fs) 64
+
+-- a field that a write reaches and a read shows
+abbrev pub seen : Field → Bool
+seen (Fixed n k) = true
+seen (Covered n k) = false
+seen (Any n) = true
+seen (Only n ok) = true
+seen (Hidden n ok) = false
+
+-- nothing is hidden
+abbrev pub allSeen : List Field → Bool
+allSeen [] = true
+allSeen (f ∷ fs) = seen f && allSeen fs
 
 join : (a b : Bool) → a ≡ true → b ≡ true → (a && b) ≡ true
 join a b h g = rw (h, g)

@@ -1,9 +1,9 @@
 -- A control register as a row of fields, from bit 0 upward to bit 63: what a write leaves, what a read shows, and which words it
 -- can hold. Rules 5.5 to 5.21 of docs/HART.md.
-use mathlib.Core.Bool.{Bool, true, false, _&&_}
+use mathlib.Core.Bool.{Bool, true, _&&_}
 use mathlib.Core.List.{List, [], _∷_}
 use Prim.Native.Nat.{ℕ, zero, suc, _+_, _-_, _*_, _/_, _%_, _^_}
-use lib.Dec.{eqb, ltb}
+use lib.Dec.{eqb}
 use Rattle.word.specs.Choice.{pick}
 
 -- n bits each
@@ -99,36 +99,3 @@ rowFrom k (At lo f ∷ ps) = unnamed (lo - k) (f ∷ rowFrom (lo + fieldWidthOf 
 
 abbrev pub row : List Place → List Field
 row = rowFrom 0
-
-abbrev pub bitsOf : List Field → ℕ
-bitsOf [] = 0
-bitsOf (f ∷ fs) = fieldWidthOf f + bitsOf fs
-
--- a fixed value fits its field
-abbrev pub fits : Field → Bool
-fits (Fixed n k) = ltb k (2 ^ n)
-fits (Covered n k) = ltb k (2 ^ n)
-fits (Any n) = true
-fits (Only n ok) = true
-fits (Hidden n ok) = true
-
-abbrev pub allFit : List Field → Bool
-allFit [] = true
-allFit (f ∷ fs) = fits f && allFit fs
-
--- a row is well made: its fields fit, and are 64 bits together, so that none of them overlap
-abbrev pub wellMade : List Field → Bool
-wellMade fs = allFit fs && eqb (bitsOf fs) 64
-
--- a field that a write reaches and a read shows
-abbrev pub seen : Field → Bool
-seen (Fixed n k) = true
-seen (Covered n k) = false
-seen (Any n) = true
-seen (Only n ok) = true
-seen (Hidden n ok) = false
-
--- nothing is hidden
-abbrev pub allSeen : List Field → Bool
-allSeen [] = true
-allSeen (f ∷ fs) = seen f && allSeen fs

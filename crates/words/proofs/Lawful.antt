@@ -11,20 +11,20 @@ use lib.Dec.{eqb, ltb}
 use lib.ListN.{length, replicate, length-set}
 use lib.Seq.{getD-set-same}
 use borrow.Author.Tests.{eq-eqb, eqb-true}
-use Rattle.word.specs.Choice.{Table, _⇒_¦_, otherwise, pick, look, every}
-use Rattle.word.specs.Row.{Fixed, Any, rowWriteOf, rowLegalOf, allSeen}
+use Rattle.word.specs.Choice.{Table, _⇒_¦_, otherwise, pick, look}
+use Rattle.word.specs.Row.{Fixed, Any, rowWriteOf, rowLegalOf}
 use Rattle.word.proofs.Bools.{both}
-use Rattle.word.proofs.Rows.{left, kept}
-use Rattle.word.proofs.Tables.{checked}
+use Rattle.word.proofs.Rows.{allSeen, left, kept}
+use Rattle.word.proofs.Tables.{every, checked}
 use Rattle.isa.specs.declared.Mode.{Mode}
 use Rattle.isa.specs.declared.Mode.the-variants.{User, Supervisor, Machine}
 use Rattle.status.specs.Fields.{mstatus}
 use Rattle.status.specs.Mode.{modeOf, numberOf}
-use Rattle.csr.specs.Row.{fours, envcfg, satp, medeleg, mseccfg, rowOf, isView}
+use Rattle.csr.specs.Row.{fours, envcfg, satp, medeleg, mseccfg, rowOf}
 use Rattle.csr.specs.declared.Csr.{Csr}
 use Rattle.csr.specs.declared.Csr.the-variants.{Ssp, Sstatus, Stvec, Senvcfg, Sscratch, Sepc, Scause, Stval, Satp, Mstatus, Medeleg, Mtvec, Menvcfg}
 use Rattle.csr.specs.declared.Csr.the-variants.{Mscratch, Mepc, Mcause, Mtval, Mseccfg}
-use Rattle.csr.proofs.Made.{all-fit, all-seen, sixty-four, alike}
+use Rattle.csr.proofs.Made.{isView, all-fit, all-seen, sixty-four, alike}
 use Rattle.rights.specs.Enable.{sseOf, padOf}
 use Rattle.regime.specs.Legal.{isMode}
 use Rattle.crossing.specs.Route.{toS, delegatedOf}

@@ -11,8 +11,8 @@ use lib.Seq.{getD-set-same, getD-set-other}
 use borrow.Author.Tests.{eqb-true, eqb-false}
 use Rattle.isa.specs.declared.Mode.the-variants.{User}
 use Rattle.word.specs.Choice.{pick}
-use Rattle.word.specs.Row.{Field, rowWriteOf, rowReadOf, allSeen}
-use Rattle.word.proofs.Rows.{backOf, back, shown}
+use Rattle.word.specs.Row.{Field, rowWriteOf, rowReadOf}
+use Rattle.word.proofs.Rows.{allSeen, backOf, back, shown}
 use Rattle.status.specs.Mode.{modeOf}
 use Rattle.csr.specs.Row.{rowOf}
 use Rattle.csr.specs.declared.Csr.{Csr}
