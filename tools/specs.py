@@ -56,14 +56,13 @@ def declared(path):
     """The definitions of a file, in its order."""
     lines = path.read_text().splitlines()
     crate, file = module_of(path)
-    found, header, inside = [], None, ""
+    found, header = [], None
     for at, line in enumerate(lines):
         if not line.strip() or line.lstrip().startswith("--"):
             continue
         indent = len(line) - len(line.lstrip())
         if not indent:
             header = at if line.startswith("module ") else None
-            inside = ""
         if re.match(r"\s*(?:use|mod|pub mod|module|infix[lr]?) ", line) or not (match := STARTS.match(line)):
             continue
         _, marks, kind, name = match.groups()
