@@ -13,7 +13,7 @@ use Rattle.isa.specs.declared.Width.the-variants.{Byte, Half, Word, Double}
 use Rattle.memory.specs.Bytes.{loadOf, storeOf}
 use Rattle.memory.proofs.Stores.{length-store, byte-before, byte-after}
 use Rattle.address.specs.Mask.{transformedOf}
-use Rattle.address.specs.Control.{modeOf}
+use Rattle.address.specs.Control.{effectiveModeOf}
 use Rattle.address.specs.declared.control.Control.{Control}
 use Rattle.place.specs.Place.{base, placeOf}
 use Rattle.place.specs.declared.Place.the-variants.{At}
@@ -47,7 +47,7 @@ module _ (c : Control) (k : Kind) (n : Width) (a : ℕ) (map : List ℕ) (len at
 
   even : at % sizeOf n ≡ 0
   even =
-      aligned n (transformedOf c (modeOf c k) k a) at
+      aligned n (transformedOf c (effectiveModeOf c k) k a) at
       (place-aligned c k n a map len (record { 0 = base + at }) found)
       (place-offset c k n a map len (record { 0 = base + at }) found)
 

@@ -28,8 +28,8 @@ effectiveOf Push mode mprv mpp = mode
 effectiveOf Pop mode mprv mpp = mode
 effectiveOf Swap mode mprv mpp = underMprv mode mprv mpp
 
-unfoldable pub modeOf : Control → Kind → Mode
-modeOf c k = effectiveOf k (c .mode) (c .mprv) (c .mpp)
+unfoldable pub effectiveModeOf : Control → Kind → Mode
+effectiveModeOf c k = effectiveOf k (c .mode) (c .mprv) (c .mpp)
 
 -- step 2: the PMM of the effective mode (U senvcfg, S menvcfg, M mseccfg)
 abbrev pub pmmOf : Mode → (senvcfg menvcfg mseccfg : ℕ) → ℕ
@@ -67,10 +67,10 @@ regimeOf c m = record { mode = m; sum = c .sum; mxr = c .mxr; sse = c .sse }
 
 -- fetches are not translated: M, or Bare
 unfoldable pub bareOf : Control → Bool
-bareOf c = not (pagedOf (modeOf c Fetch) (c .sv39))
+bareOf c = not (pagedOf (effectiveModeOf c Fetch) (c .sv39))
 
 -- loads and stores, which have one effective mode, are neither translated nor masked: masking is lifted, or masks no bit
 unfoldable pub flatOf : Control → Bool
 flatOf c =
-    not (pagedOf (modeOf c Load) (c .sv39))
-    && (unmaskedOf c Load || eqb (pmmOf (modeOf c Load) (c .upmm) (c .spmm) (c .mpmm)) 0)
+    not (pagedOf (effectiveModeOf c Load) (c .sv39))
+    && (unmaskedOf c Load || eqb (pmmOf (effectiveModeOf c Load) (c .upmm) (c .spmm) (c .mpmm)) 0)

@@ -4,7 +4,7 @@ use isa::Kind;
 use isa::Mode;
 use page::Regime;
 ghost use mathlib.Core.Path.{_≡_};
-ghost use Rattle.address.specs.Control.{underMprv, effectiveOf, modeOf, pmmOf, pagedOf, liftedOf, unmaskedFor, unmaskedOf, regimeOf, bareOf};
+ghost use Rattle.address.specs.Control.{underMprv, effectiveOf, effectiveModeOf, pmmOf, pagedOf, liftedOf, unmaskedFor, unmaskedOf, regimeOf, bareOf};
 ghost use Rattle.address.specs.Control.{flatOf};
 
 // What a hart's mode and CSRs say about accesses: sv39 is satp.MODE 8, sse is menvcfg.SSE, and the last three
@@ -53,7 +53,7 @@ fn of_kind(k: Kind, mode: Mode, mprv: bool, mpp: Mode) -> Mode
 
 // The effective mode.
 pub fn effective(c: Control, k: Kind) -> Mode
-    ensures { λ r. ⌜ r ≡ modeOf c k ⌝ }
+    ensures { λ r. ⌜ r ≡ effectiveModeOf c k ⌝ }
 {
     let mode = c.mode;
     let mpp = c.mpp;

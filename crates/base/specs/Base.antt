@@ -23,8 +23,8 @@ jalrs f o =
     0b000 ⇒ Jalr (f .rd) (f .rs1) o
     ¦ otherwise Illegal
 
-unfoldable pub jalrOf : Fields → ℕ → Instruction
-jalrOf f o = look (f .funct3) (jalrs f o)
+unfoldable pub decodeJalrOf : Fields → ℕ → Instruction
+decodeJalrOf f o = look (f .funct3) (jalrs f o)
 
 -- BRANCH: BEQ, BNE, BLT, BGE, BLTU, BGEU
 abbrev pub branches : Fields → ℕ → Table Instruction
@@ -37,8 +37,8 @@ branches f o =
     ¦ 0b111 ⇒ Branch NotLessUnsigned (f .rs1) (f .rs2) o
     ¦ otherwise Illegal
 
-unfoldable pub branchOf : Fields → ℕ → Instruction
-branchOf f o = look (f .funct3) (branches f o)
+unfoldable pub decodeBranchOf : Fields → ℕ → Instruction
+decodeBranchOf f o = look (f .funct3) (branches f o)
 
 -- LOAD: LB, LH, LW, LD, LBU, LHU, LWU
 abbrev pub loads : Fields → ℕ → Table Instruction
@@ -52,8 +52,8 @@ loads f o =
     ¦ 0b110 ⇒ Memory (Load Word false) (f .rd) (f .rs1) 0 o
     ¦ otherwise Illegal
 
-unfoldable pub loadOf : Fields → ℕ → Instruction
-loadOf f o = look (f .funct3) (loads f o)
+unfoldable pub decodeLoadOf : Fields → ℕ → Instruction
+decodeLoadOf f o = look (f .funct3) (loads f o)
 
 -- STORE: SB, SH, SW, SD
 abbrev pub stores : Fields → ℕ → Table Instruction
@@ -64,8 +64,8 @@ stores f o =
     ¦ 0b011 ⇒ Memory (Store Double) 0 (f .rs1) (f .rs2) o
     ¦ otherwise Illegal
 
-unfoldable pub storeOf : Fields → ℕ → Instruction
-storeOf f o = look (f .funct3) (stores f o)
+unfoldable pub decodeStoreOf : Fields → ℕ → Instruction
+decodeStoreOf f o = look (f .funct3) (stores f o)
 
 -- funct7, rs2 and funct3 side by side
 abbrev pub countKey : Fields → ℕ

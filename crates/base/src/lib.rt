@@ -8,11 +8,11 @@ use isa::Width;
 use isa::WordOperation;
 use word::field::Fields;
 ghost use mathlib.Core.Path.{_≡_};
-ghost use Rattle.base.specs.Base.{jalrOf, branchOf, loadOf, storeOf, countOf, countWordOf, shiftOf, opImmOf, wordShiftOf, opImm32Of};
+ghost use Rattle.base.specs.Base.{decodeJalrOf, decodeBranchOf, decodeLoadOf, decodeStoreOf, countOf, countWordOf, shiftOf, opImmOf, wordShiftOf, opImm32Of};
 ghost use Rattle.base.specs.Base.{extensionOf, opOf, extension32Of, op32Of, miscMemOf};
 
 pub fn jalr(f: Fields, offset: u64) -> Instruction
-    ensures { λ r. ⌜ r ≡ jalrOf f offset ⌝ }
+    ensures { λ r. ⌜ r ≡ decodeJalrOf f offset ⌝ }
 {
     let funct3 = f.funct3;
     match funct3 {
@@ -22,7 +22,7 @@ pub fn jalr(f: Fields, offset: u64) -> Instruction
 }
 
 pub fn branch(f: Fields, offset: u64) -> Instruction
-    ensures { λ r. ⌜ r ≡ branchOf f offset ⌝ }
+    ensures { λ r. ⌜ r ≡ decodeBranchOf f offset ⌝ }
 {
     let funct3 = f.funct3;
     match funct3 {
@@ -37,7 +37,7 @@ pub fn branch(f: Fields, offset: u64) -> Instruction
 }
 
 pub fn load(f: Fields, offset: u64) -> Instruction
-    ensures { λ r. ⌜ r ≡ loadOf f offset ⌝ }
+    ensures { λ r. ⌜ r ≡ decodeLoadOf f offset ⌝ }
 {
     let funct3 = f.funct3;
     match funct3 {
@@ -53,7 +53,7 @@ pub fn load(f: Fields, offset: u64) -> Instruction
 }
 
 pub fn store(f: Fields, offset: u64) -> Instruction
-    ensures { λ r. ⌜ r ≡ storeOf f offset ⌝ }
+    ensures { λ r. ⌜ r ≡ decodeStoreOf f offset ⌝ }
 {
     let funct3 = f.funct3;
     match funct3 {

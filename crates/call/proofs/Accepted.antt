@@ -25,9 +25,9 @@ none false false false e = (refl, refl, refl)
 
 -- refusals 1 to 3 do not apply
 pub no-refusal : (h : Hart) (m map : List ℕ) → refusalOf h m map ≡ 0
-    → (not (legal h) ≡ false) × (memory.refusedOf (length m) ≡ false) × (page.refusedOf map ≡ false)
+    → (not (legal h) ≡ false) × (memory.memoryRefusedOf (length m) ≡ false) × (page.mapRefusedOf map ≡ false)
 unfolding refusalOf
-no-refusal h m map e = none (not (legal h)) (memory.refusedOf (length m)) (page.refusedOf map) e
+no-refusal h m map e = none (not (legal h)) (memory.memoryRefusedOf (length m)) (page.mapRefusedOf map) e
 
 -- so memory has at most 2 ^ 20 bytes
 pub small : (h : Hart) (m map : List ℕ) → refusalOf h m map ≡ 0 → length m ≤ 2 ^ 20

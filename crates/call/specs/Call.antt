@@ -20,7 +20,7 @@ use Rattle.call.specs.declared.Answer.{Answer}
 
 -- refusals 1 to 3, the lowest number that applies; 0 if none does
 unfoldable pub refusalOf : Hart → (m map : List ℕ) → ℕ
-refusalOf h m map = pick (not (legal h)) 1 (pick (memory.refusedOf (length m)) 2 (pick (page.refusedOf map) 3 0))
+refusalOf h m map = pick (not (legal h)) 1 (pick (memory.memoryRefusedOf (length m)) 2 (pick (page.mapRefusedOf map) 3 0))
 
 -- a run's also: a budget over 1,000,000 is refusal 4
 unfoldable pub runRefusalOf : (budget : ℕ) → Hart → (m map : List ℕ) → ℕ

@@ -6,7 +6,7 @@ use Prim.Native.Nat.{ℕ, _<_}
 use native.Mathlib.Omega.{arith}
 use Rattle.isa.specs.declared.Mode.{Mode}
 use Rattle.isa.specs.declared.Mode.the-variants.{User, Supervisor, Machine}
-use Rattle.word.specs.Row.{legalOf}
+use Rattle.word.specs.Row.{rowLegalOf}
 use Rattle.status.specs.Fields.{isMpp, mstatus}
 use Rattle.status.specs.Mode.{numberOf}
 use Rattle.status.specs.Status.{statusOf}
@@ -25,21 +25,21 @@ number-mode Supervisor = refl
 number-mode Machine = refl
 
 -- a trap to M leaves a word that mstatus can hold, whatever was there
-pub enter-m-legal : (m : ℕ) (from : Mode) (elp : Bool) → legalOf mstatus (enterM m from elp) ≡ true
+pub enter-m-legal : (m : ℕ) (from : Mode) (elp : Bool) → rowLegalOf mstatus (enterM m from elp) ≡ true
 unfolding enterM
 enter-m-legal m from elp =
     packed (trappedM (statusOf m) (numberOf from) elp) (number-small from) (number-mode from)
 
 -- a trap to S, MRET and SRET leave one where one was
-pub enter-s-legal : (m : ℕ) (from : Mode) (elp : Bool) → legalOf mstatus m ≡ true → legalOf mstatus (enterS m from elp) ≡ true
+pub enter-s-legal : (m : ℕ) (from : Mode) (elp : Bool) → rowLegalOf mstatus m ≡ true → rowLegalOf mstatus (enterS m from elp) ≡ true
 unfolding enterS
 enter-s-legal m from elp h = packed (trappedS (statusOf m) (isSupervisor from) elp) (omega arith) (modes m h)
 
-pub leave-m-legal : (m : ℕ) → legalOf mstatus (leaveM m) ≡ true
+pub leave-m-legal : (m : ℕ) → rowLegalOf mstatus (leaveM m) ≡ true
 unfolding leaveM
 leave-m-legal m = packed (returnedM (statusOf m)) (omega arith) refl
 
-pub leave-s-legal : (m : ℕ) → legalOf mstatus m ≡ true → legalOf mstatus (leaveS m) ≡ true
+pub leave-s-legal : (m : ℕ) → rowLegalOf mstatus m ≡ true → rowLegalOf mstatus (leaveS m) ≡ true
 unfolding leaveS
 leave-s-legal m h = packed (returnedS (statusOf m)) (omega arith) (modes m h)
 

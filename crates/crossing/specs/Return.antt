@@ -6,7 +6,7 @@ use Rattle.word.specs.Choice.{pick}
 use Rattle.isa.specs.declared.Mode.{Mode}
 use Rattle.isa.specs.declared.Mode.the-variants.{User, Supervisor}
 use Rattle.status.specs.Mode.{modeOf}
-use Rattle.status.specs.Status.{statusOf, wordOf}
+use Rattle.status.specs.Status.{statusOf, statusWordOf}
 use Rattle.status.specs.declared.Status.{Status}
 
 -- MRET takes the enable back from MPIE, and by the manual leaves MPIE 1 and MPP U; it clears the saved ELP, and MPRV if the
@@ -45,10 +45,10 @@ returnedS s = record {
 
 -- the same of the word, which is what a hart holds
 unfoldable pub leaveM : ℕ → ℕ
-leaveM m = wordOf (returnedM (statusOf m))
+leaveM m = statusWordOf (returnedM (statusOf m))
 
 unfoldable pub leaveS : ℕ → ℕ
-leaveS m = wordOf (returnedS (statusOf m))
+leaveS m = statusWordOf (returnedS (statusOf m))
 
 -- the mode that MRET goes to, and SRET
 unfoldable pub mppMode : ℕ → Mode

@@ -4,7 +4,7 @@ use Prim.Native.Nat.{ℕ}
 use Rattle.isa.specs.declared.Mode.{Mode}
 use Rattle.isa.specs.declared.Mode.the-variants.{User, Supervisor, Machine}
 use Rattle.status.specs.Mode.{numberOf}
-use Rattle.status.specs.Status.{statusOf, wordOf}
+use Rattle.status.specs.Status.{statusOf, statusWordOf}
 use Rattle.status.specs.declared.Status.{Status}
 
 -- a trap to M saves the mode, the interrupt enable and ELP, and clears the enable
@@ -47,7 +47,7 @@ isSupervisor Machine = false
 
 -- the same of the word, which is what a hart holds
 unfoldable pub enterM : ℕ → Mode → (elp : Bool) → ℕ
-enterM m mode elp = wordOf (trappedM (statusOf m) (numberOf mode) elp)
+enterM m mode elp = statusWordOf (trappedM (statusOf m) (numberOf mode) elp)
 
 unfoldable pub enterS : ℕ → Mode → (elp : Bool) → ℕ
-enterS m mode elp = wordOf (trappedS (statusOf m) (isSupervisor mode) elp)
+enterS m mode elp = statusWordOf (trappedS (statusOf m) (isSupervisor mode) elp)

@@ -6,11 +6,33 @@ use Prim.Native.Nat.{ℕ}
 use lib.Dec.{eqb}
 use borrow.Author.Tests.{eqb-true}
 use Rattle.word.proofs.Bools.{both}
-use Rattle.word.specs.Row.{legalOf, bitsOf, allFit, allSeen, wellMade}
-use Rattle.csr.specs.Row.{rowOf, isView}
+use Rattle.word.specs.Row.{rowLegalOf}
+use Rattle.word.proofs.Rows.{bitsOf, allFit, wellMade, allSeen}
+use Rattle.csr.specs.Row.{rowOf}
 use Rattle.csr.specs.declared.Csr.{Csr}
 use Rattle.csr.specs.declared.Csr.the-variants.{Ssp, Sstatus, Stvec, Senvcfg, Sscratch, Sepc, Scause, Stval, Satp, Mstatus, Medeleg, Mtvec}
 use Rattle.csr.specs.declared.Csr.the-variants.{Menvcfg, Mscratch, Mepc, Mcause, Mtval, Mseccfg}
+
+-- sstatus is a view of mstatus; every other CSR has a word of its own
+abbrev pub isView : Csr → Bool
+isView Ssp = false
+isView Sstatus = true
+isView Stvec = false
+isView Senvcfg = false
+isView Sscratch = false
+isView Sepc = false
+isView Scause = false
+isView Stval = false
+isView Satp = false
+isView Mstatus = false
+isView Medeleg = false
+isView Mtvec = false
+isView Menvcfg = false
+isView Mscratch = false
+isView Mepc = false
+isView Mcause = false
+isView Mtval = false
+isView Mseccfg = false
 
 pub well-made : (n : Csr) (sse : Bool) → wellMade (rowOf n sse) ≡ true
 well-made Ssp sse = refl
@@ -58,7 +80,7 @@ all-seen Mtval e = refl
 all-seen Mseccfg e = refl
 
 -- what a CSR can hold does not depend on menvcfg.SSE
-pub alike : (n : Csr) (sse : Bool) (m : ℕ) → legalOf (rowOf n sse) m ≡ legalOf (rowOf n true) m
+pub alike : (n : Csr) (sse : Bool) (m : ℕ) → rowLegalOf (rowOf n sse) m ≡ rowLegalOf (rowOf n true) m
 alike Ssp sse m = refl
 alike Sstatus sse m = refl
 alike Stvec sse m = refl

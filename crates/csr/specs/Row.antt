@@ -1,5 +1,5 @@
 -- The eighteen CSRs of docs/HART.md, 5.1, a row of fields each (5.5 to 5.21). Unnamed bits read zero.
-use mathlib.Core.Bool.{Bool, true, false, _||_, not}
+use mathlib.Core.Bool.{Bool, _||_, not}
 use mathlib.Core.List.{List, [], _∷_}
 use Prim.Native.Nat.{ℕ}
 use lib.Dec.{eqb}
@@ -72,24 +72,3 @@ rowOf Mepc sse = fours
 rowOf Mcause sse = word
 rowOf Mtval sse = word
 rowOf Mseccfg sse = mseccfg
-
--- sstatus is a view of mstatus; every other CSR has a word of its own
-abbrev pub isView : Csr → Bool
-isView Ssp = false
-isView Sstatus = true
-isView Stvec = false
-isView Senvcfg = false
-isView Sscratch = false
-isView Sepc = false
-isView Scause = false
-isView Stval = false
-isView Satp = false
-isView Mstatus = false
-isView Medeleg = false
-isView Mtvec = false
-isView Menvcfg = false
-isView Mscratch = false
-isView Mepc = false
-isView Mcause = false
-isView Mtval = false
-isView Mseccfg = false

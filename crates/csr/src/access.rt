@@ -3,12 +3,12 @@ use super::Csr;
 use super::row;
 use status::access as mstatus;
 ghost use mathlib.Core.Path.{_≡_};
-ghost use Rattle.word.specs.Row.{writeOf, readOf};
+ghost use Rattle.word.specs.Row.{rowWriteOf, rowReadOf};
 ghost use Rattle.csr.specs.Row.{rowOf};
 
 // The stored word after a write of v over `old`; sse is menvcfg.SSE. What sstatus stores is mstatus.
 pub fn write(n: Csr, sse: bool, old: u64, v: u64) -> u64
-    ensures { λ r. ⌜ r ≡ writeOf (rowOf n sse) old v ⌝ }
+    ensures { λ r. ⌜ r ≡ rowWriteOf (rowOf n sse) old v ⌝ }
 {
     match n {
         Csr::Ssp => row::eights(v),
@@ -34,7 +34,7 @@ pub fn write(n: Csr, sse: bool, old: u64, v: u64) -> u64
 
 // What a read shows of the stored word m.
 pub fn read(n: Csr, sse: bool, m: u64) -> u64
-    ensures { λ r. ⌜ r ≡ readOf (rowOf n sse) m ⌝ }
+    ensures { λ r. ⌜ r ≡ rowReadOf (rowOf n sse) m ⌝ }
 {
     match n {
         Csr::Ssp => row::eights(m),

@@ -2,44 +2,44 @@
 use super::row;
 use status::access;
 ghost use mathlib.Core.Path.{_≡_};
-ghost use Rattle.word.specs.Row.{legalOf};
+ghost use Rattle.word.specs.Row.{rowLegalOf};
 ghost use Rattle.status.specs.Fields.{mstatus};
 ghost use Rattle.csr.specs.Row.{medeleg, fours, satp, envcfg, mseccfg};
 
 // Over mstatus with nothing set, UXL and SXL 2.
 pub fn mstatus(m: u64) -> bool
-    ensures { λ r. ⌜ r ≡ legalOf mstatus m ⌝ }
+    ensures { λ r. ⌜ r ≡ rowLegalOf mstatus m ⌝ }
 {
     access::write(0xa_0000_0000, m) == m
 }
 
 pub fn medeleg(m: u64) -> bool
-    ensures { λ r. ⌜ r ≡ legalOf medeleg m ⌝ }
+    ensures { λ r. ⌜ r ≡ rowLegalOf medeleg m ⌝ }
 {
     row::medeleg(m) == m
 }
 
 pub fn fours(m: u64) -> bool
-    ensures { λ r. ⌜ r ≡ legalOf fours m ⌝ }
+    ensures { λ r. ⌜ r ≡ rowLegalOf fours m ⌝ }
 {
     row::fours(m) == m
 }
 
 pub fn satp(m: u64) -> bool
-    ensures { λ r. ⌜ r ≡ legalOf satp m ⌝ }
+    ensures { λ r. ⌜ r ≡ rowLegalOf satp m ⌝ }
 {
     row::satp(0, m) == m
 }
 
 // menvcfg and senvcfg.
 pub fn envcfg(m: u64) -> bool
-    ensures { λ r. ⌜ r ≡ legalOf envcfg m ⌝ }
+    ensures { λ r. ⌜ r ≡ rowLegalOf envcfg m ⌝ }
 {
     row::envcfg(0, m) == m
 }
 
 pub fn mseccfg(m: u64) -> bool
-    ensures { λ r. ⌜ r ≡ legalOf mseccfg m ⌝ }
+    ensures { λ r. ⌜ r ≡ rowLegalOf mseccfg m ⌝ }
 {
     row::mseccfg(0, m) == m
 }

@@ -3,30 +3,30 @@ use word::choice;
 ghost use mathlib.Core.Path.{_≡_};
 ghost use Prim.Native.Nat.{_<_};
 ghost use Rattle.word.specs.Choice.{pick};
-ghost use Rattle.word.specs.Row.{Only, digit, takesOf, writeOf, readOf};
+ghost use Rattle.word.specs.Row.{Only, digit, takesOf, rowWriteOf, rowReadOf};
 ghost use Rattle.csr.specs.Row.{isPmm, isScheme, medeleg, word, fours, eights, satp, envcfg, envcfgHeld, mseccfg};
 
 // Scratch, cause and tval.
 pub fn any(v: u64) -> u64
-    ensures { λ r. ⌜ r ≡ readOf word v ⌝ }
+    ensures { λ r. ⌜ r ≡ rowReadOf word v ⌝ }
 {
     v
 }
 
 pub fn fours(v: u64) -> u64
-    ensures { λ r. ⌜ r ≡ readOf fours v ⌝ }
+    ensures { λ r. ⌜ r ≡ rowReadOf fours v ⌝ }
 {
     v / 4 * 4
 }
 
 pub fn eights(v: u64) -> u64
-    ensures { λ r. ⌜ r ≡ readOf eights v ⌝ }
+    ensures { λ r. ⌜ r ≡ rowReadOf eights v ⌝ }
 {
     v / 8 * 8
 }
 
 pub fn medeleg(v: u64) -> u64
-    ensures { λ r. ⌜ r ≡ readOf medeleg v ⌝ }
+    ensures { λ r. ⌜ r ≡ rowReadOf medeleg v ⌝ }
 {
     v % 0x400 + v / 0x1000 % 4 * 0x1000 + v / 0x8000 % 2 * 0x8000 + v / 0x4_0000 % 2 * 0x4_0000
 }
@@ -40,26 +40,26 @@ fn pmm(old: u64, v: u64) -> u64
 }
 
 pub fn envcfg(old: u64, v: u64) -> u64
-    ensures { λ r. ⌜ r ≡ writeOf envcfg old v ⌝ }
+    ensures { λ r. ⌜ r ≡ rowWriteOf envcfg old v ⌝ }
 {
     v / 4 % 2 * 4 + v / 8 % 2 * 8 + pmm(old, v) * 0x1_0000_0000
 }
 
 // While menvcfg.SSE is 0, the stored SSE stays.
 fn held(old: u64, v: u64) -> u64
-    ensures { λ r. ⌜ r ≡ writeOf envcfgHeld old v ⌝ }
+    ensures { λ r. ⌜ r ≡ rowWriteOf envcfgHeld old v ⌝ }
 {
     v / 4 % 2 * 4 + old / 8 % 2 * 8 + pmm(old, v) * 0x1_0000_0000
 }
 
 pub fn senvcfg(sse: bool, old: u64, v: u64) -> u64
-    ensures { λ r. ⌜ r ≡ writeOf (pick sse envcfg envcfgHeld) old v ⌝ }
+    ensures { λ r. ⌜ r ≡ rowWriteOf (pick sse envcfg envcfgHeld) old v ⌝ }
 {
     if sse { envcfg(old, v) } else { held(old, v) }
 }
 
 pub fn mseccfg(old: u64, v: u64) -> u64
-    ensures { λ r. ⌜ r ≡ writeOf mseccfg old v ⌝ }
+    ensures { λ r. ⌜ r ≡ rowWriteOf mseccfg old v ⌝ }
 {
     v / 0x400 % 2 * 0x400 + pmm(old, v) * 0x1_0000_0000
 }
@@ -73,39 +73,39 @@ fn scheme(mode: u64) -> bool
 
 // satp: a write with another MODE changes nothing.
 pub fn satp(old: u64, v: u64) -> u64
-    ensures { λ r. ⌜ r ≡ writeOf satp old v ⌝ }
+    ensures { λ r. ⌜ r ≡ rowWriteOf satp old v ⌝ }
 {
     let mode = v / 0x1000_0000_0000_0000 % 16;
     choice::taken(scheme(mode), mode, old / 0x1000_0000_0000_0000 % 16, 16) * 0x1000_0000_0000_0000
 }
 
 pub fn envcfg_shown(m: u64) -> u64
-    ensures { λ r. ⌜ r ≡ readOf envcfg m ⌝ }
+    ensures { λ r. ⌜ r ≡ rowReadOf envcfg m ⌝ }
 {
     m / 4 % 2 * 4 + m / 8 % 2 * 8 + m / 0x1_0000_0000 % 4 * 0x1_0000_0000
 }
 
 // While menvcfg.SSE is 0, senvcfg.SSE reads as 0.
 fn held_shown(m: u64) -> u64
-    ensures { λ r. ⌜ r ≡ readOf envcfgHeld m ⌝ }
+    ensures { λ r. ⌜ r ≡ rowReadOf envcfgHeld m ⌝ }
 {
     m / 4 % 2 * 4 + m / 0x1_0000_0000 % 4 * 0x1_0000_0000
 }
 
 pub fn senvcfg_shown(sse: bool, m: u64) -> u64
-    ensures { λ r. ⌜ r ≡ readOf (pick sse envcfg envcfgHeld) m ⌝ }
+    ensures { λ r. ⌜ r ≡ rowReadOf (pick sse envcfg envcfgHeld) m ⌝ }
 {
     if sse { envcfg_shown(m) } else { held_shown(m) }
 }
 
 pub fn mseccfg_shown(m: u64) -> u64
-    ensures { λ r. ⌜ r ≡ readOf mseccfg m ⌝ }
+    ensures { λ r. ⌜ r ≡ rowReadOf mseccfg m ⌝ }
 {
     m / 0x400 % 2 * 0x400 + m / 0x1_0000_0000 % 4 * 0x1_0000_0000
 }
 
 pub fn satp_shown(m: u64) -> u64
-    ensures { λ r. ⌜ r ≡ readOf satp m ⌝ }
+    ensures { λ r. ⌜ r ≡ rowReadOf satp m ⌝ }
 {
     m / 0x1000_0000_0000_0000 * 0x1000_0000_0000_0000
 }

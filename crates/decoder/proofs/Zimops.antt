@@ -9,7 +9,7 @@ use Rattle.word.proofs.Tables.{missed, hit}
 use Rattle.word.specs.Field.{bits, opcode, fieldsOf}
 use Rattle.decoder.specs.Cfi.{zimopOf}
 use Rattle.decoder.specs.Decode.{decodeOf, privilegedOf}
-use Rattle.decoder.specs.System.{csrOf, csrs, systemOf, systems}
+use Rattle.decoder.specs.System.{decodeCsrOf, csrs, systemOf, systems}
 
 -- another opcode
 pub no-system : (w : ℕ) → (opcode w ≡ 0b1110011 → ⊥) → privilegedOf w ≡ false
@@ -21,7 +21,7 @@ not-false false e = sym e
 
 -- no word of funct3 100 is one of the four whole words
 zimops : (w : ℕ) → bits w 14 12 ≡ 0b100 → zimopOf w (fieldsOf w) ≡ systemOf w (fieldsOf w)
-unfolding systemOf csrOf
+unfolding systemOf decodeCsrOf
 zimops w h =
     hit (csrs w (fieldsOf w)) h
     ∙ missed w (systems w (fieldsOf w)) (

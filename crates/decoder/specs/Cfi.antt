@@ -11,8 +11,8 @@ use Rattle.isa.specs.declared.Instruction.{Instruction}
 use Rattle.isa.specs.declared.Instruction.the-variants.{Illegal, Memory, ReadSsp, MopR, MopRr}
 
 -- funct7 of an AMO word is funct5, aq and rl. Swap: funct5 01001, funct3 010 or 011, any aq and rl
-abbrev pub swapKey : Fields → ℕ
-swapKey f = f .funct7 / 4 * 8 + f .funct3
+abbrev pub amoKey : Fields → ℕ
+amoKey f = f .funct7 / 4 * 8 + f .funct3
 
 abbrev pub aq : Fields → Bool
 aq f = eqb (f .funct7 / 2 % 2) 1
@@ -27,7 +27,7 @@ swaps f =
     ¦ otherwise Illegal
 
 unfoldable pub swapOf : Fields → Instruction
-swapOf f = look (swapKey f) (swaps f)
+swapOf f = look (amoKey f) (swaps f)
 
 -- MOP.RR.n: bits 31:25 are 1 n[2] 00 n[1:0] 1
 abbrev pub mopRrKey : ℕ → ℕ

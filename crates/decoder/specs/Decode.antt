@@ -7,7 +7,7 @@ use Rattle.word.specs.Choice.{Table, _⇒_¦_, otherwise, look}
 use Rattle.word.specs.Field.{bits, opcode, fieldsOf}
 use Rattle.word.specs.Immediate.{immI, immS, immB, immU, immJ}
 use Rattle.word.specs.declared.field.Fields.{Fields}
-use Rattle.base.specs.Base.{jalrOf, branchOf, loadOf, storeOf, opImmOf, opImm32Of, opOf, op32Of, miscMemOf}
+use Rattle.base.specs.Base.{decodeJalrOf, decodeBranchOf, decodeLoadOf, decodeStoreOf, opImmOf, opImm32Of, opOf, op32Of, miscMemOf}
 use Rattle.decoder.specs.Cfi.{swapOf}
 use Rattle.decoder.specs.System.{systemOf}
 use Rattle.isa.specs.declared.Instruction.{Instruction}
@@ -19,10 +19,10 @@ opcodes w f =
     0b0110111 ⇒ Lui (f .rd) (immU w)
     ¦ 0b0010111 ⇒ Auipc (f .rd) (immU w)
     ¦ 0b1101111 ⇒ Jal (f .rd) (immJ w)
-    ¦ 0b1100111 ⇒ jalrOf f (immI w)
-    ¦ 0b1100011 ⇒ branchOf f (immB w)
-    ¦ 0b0000011 ⇒ loadOf f (immI w)
-    ¦ 0b0100011 ⇒ storeOf f (immS w)
+    ¦ 0b1100111 ⇒ decodeJalrOf f (immI w)
+    ¦ 0b1100011 ⇒ decodeBranchOf f (immB w)
+    ¦ 0b0000011 ⇒ decodeLoadOf f (immI w)
+    ¦ 0b0100011 ⇒ decodeStoreOf f (immS w)
     ¦ 0b0010011 ⇒ opImmOf f (immI w)
     ¦ 0b0011011 ⇒ opImm32Of f (immI w)
     ¦ 0b0110011 ⇒ opOf f

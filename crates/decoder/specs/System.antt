@@ -21,8 +21,8 @@ csrs w f =
     ¦ 0b100 ⇒ zimopOf w f
     ¦ otherwise Illegal
 
-unfoldable pub csrOf : ℕ → Fields → Instruction
-csrOf w f = look (f .funct3) (csrs w f)
+unfoldable pub decodeCsrOf : ℕ → Fields → Instruction
+decodeCsrOf w f = look (f .funct3) (csrs w f)
 
 -- ECALL, EBREAK, SRET and MRET are whole words
 abbrev pub systems : ℕ → Fields → Table Instruction
@@ -31,7 +31,7 @@ systems w f =
     ¦ 0x00100073 ⇒ Ebreak
     ¦ 0x10200073 ⇒ Sret
     ¦ 0x30200073 ⇒ Mret
-    ¦ otherwise (csrOf w f)
+    ¦ otherwise (decodeCsrOf w f)
 
 unfoldable pub systemOf : ℕ → Fields → Instruction
 systemOf w f = look w (systems w f)

@@ -5,10 +5,10 @@ use isa::CsrSource;
 use isa::Instruction;
 use word::field::Fields;
 ghost use mathlib.Core.Path.{_≡_};
-ghost use Rattle.decoder.specs.System.{csrOf, systemOf};
+ghost use Rattle.decoder.specs.System.{decodeCsrOf, systemOf};
 
 fn csr(w: u32, f: Fields) -> Instruction
-    ensures { λ r. ⌜ r ≡ csrOf w f ⌝ }
+    ensures { λ r. ⌜ r ≡ decodeCsrOf w f ⌝ }
 {
     let number = (w / 1048576 % 4096) as u16;
     let funct3 = f.funct3;

@@ -40,9 +40,9 @@ mergedOf Write old v = v
 mergedOf Set old v = bitOr old v
 mergedOf Clear old v = bitAnd old (2 ^ 64 - 1 - v)
 
-unfoldable pub reachedOf : Reached → CsrOperation → CsrSource → (rd word : ℕ) → (x : List ℕ) → (next : ℕ) → Effect
-reachedOf (reached.To n) o source rd word x next = effect.Whole (whole.Csr o n (writesOf o (fieldOf source)) (operandOf source x) rd next)
-reachedOf reached.Illegal o source rd word x next = trapWith (illegalOf word)
+unfoldable pub csrReachedOf : Reached → CsrOperation → CsrSource → (rd word : ℕ) → (x : List ℕ) → (next : ℕ) → Effect
+csrReachedOf (reached.To n) o source rd word x next = effect.Whole (whole.Csr o n (writesOf o (fieldOf source)) (operandOf source x) rd next)
+csrReachedOf reached.Illegal o source rd word x next = trapWith (illegalOf word)
 
-unfoldable pub csrOf : CsrOperation → CsrSource → (rd address word : ℕ) → (x : List ℕ) → (next : ℕ) → Mode → (permitted : Bool) → Effect
-csrOf o source rd address word x next m permitted = reachedOf (reachOf m permitted address) o source rd word x next
+unfoldable pub csrEffectOf : CsrOperation → CsrSource → (rd address word : ℕ) → (x : List ℕ) → (next : ℕ) → Mode → (permitted : Bool) → Effect
+csrEffectOf o source rd address word x next m permitted = csrReachedOf (reachOf m permitted address) o source rd word x next

@@ -12,13 +12,13 @@ abbrev pub trapWith : Exception → Effect
 trapWith e = Trap (e .cause) (e .tval)
 
 -- MRET is illegal below M
-abbrev pub mretOf : Mode → (word : ℕ) → Effect
-mretOf User word = trapWith (illegalOf word)
-mretOf Supervisor word = trapWith (illegalOf word)
-mretOf Machine word = Whole Mret
+abbrev pub mretEffectOf : Mode → (word : ℕ) → Effect
+mretEffectOf User word = trapWith (illegalOf word)
+mretEffectOf Supervisor word = trapWith (illegalOf word)
+mretEffectOf Machine word = Whole Mret
 
 -- SRET is illegal in U
-abbrev pub sretOf : Mode → (word : ℕ) → Effect
-sretOf User word = trapWith (illegalOf word)
-sretOf Supervisor word = Whole Sret
-sretOf Machine word = Whole Sret
+abbrev pub sretEffectOf : Mode → (word : ℕ) → Effect
+sretEffectOf User word = trapWith (illegalOf word)
+sretEffectOf Supervisor word = Whole Sret
+sretEffectOf Machine word = Whole Sret

@@ -10,7 +10,7 @@ use rights::reach;
 use rights::reach::Reached;
 use word::logic;
 ghost use mathlib.Core.Path.{_≡_};
-ghost use Rattle.effect.specs.Csrs.{writesOf, mergedOf, fieldOf, operandOf, csrOf};
+ghost use Rattle.effect.specs.Csrs.{writesOf, mergedOf, fieldOf, operandOf, csrEffectOf};
 
 // CSRRS and CSRRC with x0 or 0 do not write.
 pub fn writes(o: CsrOperation, field: u8) -> bool
@@ -63,7 +63,7 @@ pub fn csr(
     next: u64,
     s: Setting,
 ) -> Effect
-    ensures { λ r. ⌜ r ≡ csrOf o source rd address word (now (x .entry)) next (s .control .mode) (s .permitted) ⌝ }
+    ensures { λ r. ⌜ r ≡ csrEffectOf o source rd address word (now (x .entry)) next (s .control .mode) (s .permitted) ⌝ }
 {
     let c = s.control;
     let m = c.mode;

@@ -5,8 +5,8 @@ use isa::Mode;
 use rights::exception;
 use rights::exception::Exception;
 ghost use mathlib.Core.Path.{_≡_};
-ghost use Rattle.rights.specs.Exception.{illegalOf, breakpointOf, callOf};
-ghost use Rattle.effect.specs.System.{trapWith, mretOf, sretOf};
+ghost use Rattle.rights.specs.Exception.{illegalOf, breakpointOf, ecallOf};
+ghost use Rattle.effect.specs.System.{trapWith, mretEffectOf, sretEffectOf};
 
 fn trap(e: Exception) -> Effect
     ensures { λ r. ⌜ r ≡ trapWith e ⌝ }
@@ -27,14 +27,14 @@ pub fn ebreak(pc: u64) -> Effect
 }
 
 pub fn ecall(m: Mode) -> Effect
-    ensures { λ r. ⌜ r ≡ trapWith (callOf m) ⌝ }
+    ensures { λ r. ⌜ r ≡ trapWith (ecallOf m) ⌝ }
 {
     trap(exception::call(m))
 }
 
 // Illegal below M.
 pub fn mret(m: Mode, word: u32) -> Effect
-    ensures { λ r. ⌜ r ≡ mretOf m word ⌝ }
+    ensures { λ r. ⌜ r ≡ mretEffectOf m word ⌝ }
 {
     match m {
         Mode::User => illegal(word),
@@ -45,7 +45,7 @@ pub fn mret(m: Mode, word: u32) -> Effect
 
 // Illegal in U.
 pub fn sret(m: Mode, word: u32) -> Effect
-    ensures { λ r. ⌜ r ≡ sretOf m word ⌝ }
+    ensures { λ r. ⌜ r ≡ sretEffectOf m word ⌝ }
 {
     match m {
         Mode::User => illegal(word),

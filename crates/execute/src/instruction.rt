@@ -18,12 +18,12 @@ ghost use lib.ListN.{length};
 ghost use Rattle.word.specs.Sum.{sumOf};
 ghost use Rattle.effect.specs.Compute.{operationOf, wordOperationOf, conditionOf};
 ghost use Rattle.effect.specs.Jump.{branchOf};
-ghost use Rattle.meaning.specs.Instruction.{shownOf, executeOf};
+ghost use Rattle.meaning.specs.Instruction.{sspShownOf, executeOf};
 ghost use Rattle.effect.specs.declared.Effect.the-variants.{Write};
 
 // A read of ssp, by the active shadow enable.
 fn shown(on: bool, ssp: u64) -> u64
-    ensures { λ r. ⌜ r ≡ shownOf on ssp ⌝ }
+    ensures { λ r. ⌜ r ≡ sspShownOf on ssp ⌝ }
 {
     if on {
         return ssp;

@@ -11,7 +11,7 @@ use Rattle.word.specs.Choice.{pick}
 use Rattle.csr.specs.declared.Csr.{Csr}
 use Rattle.meaning.specs.Plan.{effectOf}
 use Rattle.meaning.specs.declared.Source.{Source}
-use Rattle.words.specs.Words.{_of_, _but_≔_, expected, slotOf, PC, ELP, SSP, MENVCFG, COUNT}
+use Rattle.words.specs.Words.{_of_, _but_≔_, expected, csrSlotOf, PC, ELP, SSP, MENVCFG, COUNT}
 use Rattle.words.specs.Access.{shownOf, writtenOf, csrWriteOf}
 use Rattle.words.specs.Setting.{settingOf}
 use Rattle.words.proofs.Lawful.{placed}
@@ -42,22 +42,22 @@ module _ (pc : ℕ) (x w : List ℕ) where
 
   -- a CSR's word does not depend on pc: what it shows, what a write leaves, and where that is stored
   module _ (n : Csr) where
-    behind : 3 ≤ slotOf n
+    behind : 3 ≤ csrSlotOf n
     behind = placed n .behind
 
     pub shown-at : shownOf n (w but PC ≔ pc) ≡ shownOf n w
     unfolding shownOf
-    shown-at = rw (getD-set-other w PC MENVCFG pc 0 (omega arith), getD-set-other w PC (slotOf n) pc 0 (omega (arith, behind)))
+    shown-at = rw (getD-set-other w PC MENVCFG pc 0 (omega arith), getD-set-other w PC (csrSlotOf n) pc 0 (omega (arith, behind)))
 
     written-at : (v : ℕ) → writtenOf n v (w but PC ≔ pc) ≡ writtenOf n v w
     unfolding writtenOf
-    written-at v = rw (getD-set-other w PC MENVCFG pc 0 (omega arith), getD-set-other w PC (slotOf n) pc 0 (omega (arith, behind)))
+    written-at v = rw (getD-set-other w PC MENVCFG pc 0 (omega arith), getD-set-other w PC (csrSlotOf n) pc 0 (omega (arith, behind)))
 
     pub csr-at : (writes : Bool) (v next : ℕ)
         → (pick writes (csrWriteOf n v (w but PC ≔ pc)) (w but PC ≔ pc) but PC ≔ next) ≡ (pick writes (csrWriteOf n v w) w but PC ≔ next)
     csr-at true v next =
-        ap (λ (u : ℕ). w but PC ≔ pc but slotOf n ≔ u but PC ≔ next) (written-at v)
-        ∙ ap (λ (l : List ℕ). l but PC ≔ next) (set-comm w PC (slotOf n) pc (writtenOf n v w) (omega (arith, behind)))
+        ap (λ (u : ℕ). w but PC ≔ pc but csrSlotOf n ≔ u but PC ≔ next) (written-at v)
+        ∙ ap (λ (l : List ℕ). l but PC ≔ next) (set-comm w PC (csrSlotOf n) pc (writtenOf n v w) (omega (arith, behind)))
         ∙ set-set (csrWriteOf n v w) PC pc next
     csr-at false v next = set-set w PC pc next
 

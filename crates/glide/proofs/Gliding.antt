@@ -19,7 +19,7 @@ use Rattle.effect.specs.declared.Whole.the-variants as whole
 use Rattle.meaning.specs.Instruction.{executeOf, nextOf}
 use Rattle.meaning.specs.Plan.{landedOf, arrivedOf, effectOf}
 use Rattle.meaning.specs.declared.Source.the-variants.{Fetch}
-use Rattle.words.specs.Words.{_of_, _but_≔_, slotOf, PC, SSP}
+use Rattle.words.specs.Words.{_of_, _but_≔_, csrSlotOf, PC, SSP}
 use Rattle.words.specs.Access.{shownOf, writtenOf, csrWriteOf}
 use Rattle.words.specs.Setting.{settingOf, switches}
 use Rattle.words.proofs.Lawful.{placed}
@@ -62,11 +62,11 @@ module _ (pc : ℕ) (x w m : List ℕ) (st : Straight w) where
   -- a CSR that no setting depends on, where the instruction writes
   module _ (n : Csr) (v : ℕ) where
     changed-straight : (writes : Bool) → Straight (pick writes (csrWriteOf n v w) w)
-    changed-straight true = still-straight w st (slotOf n) (writtenOf n v w) (placed n .behind)
+    changed-straight true = still-straight w st (csrSlotOf n) (writtenOf n v w) (placed n .behind)
     changed-straight false = st
 
-    changed-setting : (writes : Bool) → switches (slotOf n) ≡ false → settingOf (pick writes (csrWriteOf n v w) w) ≡ settingOf w
-    changed-setting true off = setting-kept (slotOf n) (writtenOf n v w) w off
+    changed-setting : (writes : Bool) → switches (csrSlotOf n) ≡ false → settingOf (pick writes (csrWriteOf n v w) w) ≡ settingOf w
+    changed-setting true off = setting-kept (csrSlotOf n) (writtenOf n v w) w off
     changed-setting false off = refl
 
   carried-out : (k : kind.Whole) (next : ℕ) (x' w' : List ℕ) → Carried k x w next x' w' → Did (Whole k) next x' w' m

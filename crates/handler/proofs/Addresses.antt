@@ -14,7 +14,7 @@ use Rattle.csr.specs.declared.Csr.the-variants.{Sscratch, Sepc, Scause, Stval}
 use Rattle.rights.specs.Reach.{reachOf}
 use Rattle.rights.specs.declared.reach.Reached.the-variants.{To, Illegal}
 use Rattle.words.specs.Words.{SSCRATCH, MSCRATCH}
-use Rattle.handler.specs.Named.{Stands, Finds, namedOf}
+use Rattle.handler.specs.Named.{CsrStands, Finds, namedOf}
 use Rattle.handler.specs.declared.Found.{Found}
 use Rattle.handler.specs.declared.Found.the-variants.{At}
 
@@ -26,25 +26,25 @@ four P q a e p0 p1 p2 p3 =
     (λ h. either (a % 4) 3 (λ g. let s : q * 4 + 2 ≡ a = omega arith in subst P s p2) (λ g. let s : q * 4 + 3 ≡ a = omega arith in subst P s p3))
 
 -- M's four, from M
-pub machine : (a : ℕ) → a / 4 ≡ 0xd0 → Stands (MSCRATCH + a % 4) a Machine
+pub machine : (a : ℕ) → a / 4 ≡ 0xd0 → CsrStands (MSCRATCH + a % 4) a Machine
 unfolding reachOf namedOf
 machine a e =
-    four (λ i. Stands (MSCRATCH + i % 4) i Machine) 0xd0 a e
+    four (λ i. CsrStands (MSCRATCH + i % 4) i Machine) 0xd0 a e
     (omega arith, refl, λ p. refl, λ sse. refl, refl)
     (omega arith, refl, λ p. refl, λ sse. refl, refl)
     (omega arith, refl, λ p. refl, λ sse. refl, refl)
     (omega arith, refl, λ p. refl, λ sse. refl, refl)
 
 -- S's four, from a mode that is not below S
-pub supervisor : (m : Mode) (a : ℕ) → ltb (numberOf m) 1 ≡ false → a / 4 ≡ 0x50 → Stands (SSCRATCH + a % 4) a m
+pub supervisor : (m : Mode) (a : ℕ) → ltb (numberOf m) 1 ≡ false → a / 4 ≡ 0x50 → CsrStands (SSCRATCH + a % 4) a m
 unfolding reachOf namedOf
 supervisor m a h e =
-    four (λ i. Stands (SSCRATCH + i % 4) i m) 0x50 a e
+    four (λ i. CsrStands (SSCRATCH + i % 4) i m) 0x50 a e
     (omega arith, refl, λ p. second (ltb (numberOf m) 1) Illegal (To Sscratch) h, λ sse. refl, refl)
     (omega arith, refl, λ p. second (ltb (numberOf m) 1) Illegal (To Sepc) h, λ sse. refl, refl)
     (omega arith, refl, λ p. second (ltb (numberOf m) 1) Illegal (To Scause) h, λ sse. refl, refl)
     (omega arith, refl, λ p. second (ltb (numberOf m) 1) Illegal (To Stval) h, λ sse. refl, refl)
 
 -- a word that was found
-pub found : (r : Found) (k a : ℕ) (m : Mode) → r ≡ At k → Finds r a m → Stands k a m
+pub found : (r : Found) (k a : ℕ) (m : Mode) → r ≡ At k → Finds r a m → CsrStands k a m
 found r k a m e f = subst (λ s. Finds s a m) e f

@@ -8,39 +8,39 @@ use lib.Dec.{eqb}
 use Rattle.word.specs.Choice.{pick}
 use Rattle.word.specs.Field.{bits, fieldsOf}
 use Rattle.word.specs.declared.field.Fields.{Fields}
-use Rattle.word.specs.Row.{readOf, writeOf}
+use Rattle.word.specs.Row.{rowReadOf, rowWriteOf}
 use Rattle.isa.specs.declared.CsrOperation.{CsrOperation}
 use Rattle.isa.specs.declared.CsrSource.the-variants.{Register}
 use Rattle.isa.specs.declared.Mode.{Mode}
 use Rattle.csr.specs.Row.{fours, word}
 use Rattle.rights.specs.Enable.{sseOf}
-use Rattle.effect.specs.Csrs.{csrOf, reachedOf, writesOf, mergedOf}
+use Rattle.effect.specs.Csrs.{csrEffectOf, csrReachedOf, writesOf, mergedOf}
 use Rattle.effect.specs.Register.{regOf, putOf}
 use Rattle.words.specs.Access.{shownOf, writtenOf}
-use Rattle.words.specs.Words.{_of_, _but_≔_, slotOf, MENVCFG}
+use Rattle.words.specs.Words.{_of_, _but_≔_, csrSlotOf, MENVCFG}
 use Rattle.handler.specs.Handler.{Handled}
-use Rattle.handler.specs.Named.{Stands, namedOf, heldOf}
+use Rattle.handler.specs.Named.{CsrStands, namedOf, heldOf}
 
 -- a write of either row leaves what a read shows of it, whatever stood there
-leaves : (b : Bool) (old v : ℕ) → writeOf (pick b fours word) old v ≡ readOf (pick b fours word) v
+leaves : (b : Bool) (old v : ℕ) → rowWriteOf (pick b fours word) old v ≡ rowReadOf (pick b fours word) v
 leaves true old v = refl
 leaves false old v = refl
 
-shown : (k a : ℕ) (m : Mode) (rest : List ℕ) → Stands k a m → shownOf (namedOf a) rest ≡ heldOf a (k of rest)
+shown : (k a : ℕ) (m : Mode) (rest : List ℕ) → CsrStands k a m → shownOf (namedOf a) rest ≡ heldOf a (k of rest)
 unfolding shownOf heldOf
 shown k a m rest st = rw (st .3 (sseOf (MENVCFG of rest)), st .1)
 
-written : (k a v : ℕ) (m : Mode) (rest : List ℕ) → Stands k a m → writtenOf (namedOf a) v rest ≡ heldOf a v
+written : (k a v : ℕ) (m : Mode) (rest : List ℕ) → CsrStands k a m → writtenOf (namedOf a) v rest ≡ heldOf a v
 unfolding writtenOf heldOf
-written k a v m rest st = rw (st .3 (sseOf (MENVCFG of rest))) (leaves (eqb (a % 4) 1) (slotOf (namedOf a) of rest) v)
+written k a v m rest st = rw (st .3 (sseOf (MENVCFG of rest))) (leaves (eqb (a % 4) 1) (csrSlotOf (namedOf a) of rest) v)
 
 -- the instruction was carried out
 carried : (o : CsrOperation) (rs1 rd a w k next : ℕ) (x rest : List ℕ) (m : Mode) (permitted : Bool) (x' rest' : List ℕ)
-    → Stands k a m
+    → CsrStands k a m
     → x' ≡ putOf rd (heldOf a (k of rest)) x
     → rest' ≡ pick (writesOf o rs1) (rest but k ≔ heldOf a (mergedOf o (heldOf a (k of rest)) (regOf x rs1))) rest
-    → Handled (csrOf o (Register rs1) rd a w x next m permitted) x rest next x' rest'
-unfolding csrOf reachedOf
+    → Handled (csrEffectOf o (Register rs1) rd a w x next m permitted) x rest next x' rest'
+unfolding csrEffectOf csrReachedOf
 carried o rs1 rd a w k next x rest m permitted x' rest' st ex er =
     rw (st .2 permitted) (
       refl,
@@ -52,10 +52,10 @@ carried o rs1 rd a w k next x rest m permitted x' rest' st ex er =
 -- the same, with the registers' numbers out of the word's fields
 pub done : (o : CsrOperation) (f : Fields) (a w k next : ℕ) (x rest : List ℕ) (m : Mode) (permitted : Bool) (x' rest' : List ℕ)
     → f ≡ fieldsOf w
-    → Stands k a m
+    → CsrStands k a m
     → x' ≡ putOf (f .rd) (heldOf a (k of rest)) x
     → rest' ≡ pick (writesOf o (f .rs1)) (rest but k ≔ heldOf a (mergedOf o (heldOf a (k of rest)) (regOf x (f .rs1)))) rest
-    → Handled (csrOf o (Register (bits w 19 15)) (bits w 11 7) a w x next m permitted) x rest next x' rest'
+    → Handled (csrEffectOf o (Register (bits w 19 15)) (bits w 11 7) a w x next m permitted) x rest next x' rest'
 done o f a w k next x rest m permitted x' rest' e st ex er =
-    subst (λ (g : Fields). Handled (csrOf o (Register (g .rs1)) (g .rd) a w x next m permitted) x rest next x' rest') e
+    subst (λ (g : Fields). Handled (csrEffectOf o (Register (g .rs1)) (g .rd) a w x next m permitted) x rest next x' rest') e
     (carried o (f .rs1) (f .rd) a w k next x rest m permitted x' rest' st ex er)

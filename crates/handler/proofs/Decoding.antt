@@ -3,11 +3,11 @@
 use mathlib.Core.Path.{_≡_, refl, sym, ap, _∙_}
 use Prim.Native.Nat.{ℕ, _+_, _*_, _/_, _%_, _<_}
 use native.Mathlib.Omega.{arith}
-use Rattle.word.specs.Choice.{look, Missed}
+use Rattle.word.specs.Choice.{look}
 use Rattle.word.specs.Field.{fieldsOf}
-use Rattle.word.proofs.Tables.{hit, missed}
+use Rattle.word.proofs.Tables.{Missed, hit, missed}
 use Rattle.decoder.specs.Decode.{decodeOf, opcodes}
-use Rattle.decoder.specs.System.{systemOf, systems, csrOf, csrs}
+use Rattle.decoder.specs.System.{systemOf, systems, decodeCsrOf, csrs}
 
 -- two digits of a sum
 digits : (p r f : ℕ) → r < 128 → p * 128 + r ≡ f * 128 + 0b1110011 → (p ≡ f) × (r ≡ 0b1110011)
@@ -20,7 +20,7 @@ another w v f p e z q =
     omega (arith, h)
 
 pub decoded : (w f : ℕ) → 0 < f → w / 4096 % 8 * 128 + w % 128 ≡ f * 128 + 0b1110011 → decodeOf w ≡ look f (csrs w (fieldsOf w))
-unfolding decodeOf systemOf csrOf
+unfolding decodeOf systemOf decodeCsrOf
 decoded w f p e =
     let (funct3, op) = digits (w / 4096 % 8) (w % 128) f (omega arith) e in
     let whole : Missed w (systems w (fieldsOf w)) (Unit {0}) = (

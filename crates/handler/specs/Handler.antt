@@ -17,14 +17,14 @@ use Rattle.effect.specs.declared.Whole as kind
 use Rattle.effect.specs.declared.Whole.the-variants as whole
 use Rattle.words.specs.Access.{shownOf, csrWriteOf}
 use Rattle.words.specs.Setting.{switches}
-use Rattle.words.specs.Words.{slotOf}
+use Rattle.words.specs.Words.{csrSlotOf}
 
 -- a CSR instruction was carried out: rd takes what the CSR showed, and where it writes, the CSR's word is what a write leaves; no CSR of these
 -- changes what the hart's mode and CSRs say
 abbrev pub Carried : kind.Whole → (x rest : List ℕ) → (next : ℕ) → (x' rest' : List ℕ) → Type 0
 Carried (whole.Csr o n writes v rd to) x rest next x' rest' =
     (to ≡ next)
-    × (switches (slotOf n) ≡ false)
+    × (switches (csrSlotOf n) ≡ false)
     × (x' ≡ putOf rd (shownOf n rest) x)
     × (rest' ≡ pick writes (csrWriteOf n (mergedOf o (shownOf n rest) v) rest) rest)
 Carried whole.Mret x rest next x' rest' = ⊥

@@ -6,7 +6,7 @@ use mathlib.Core.Path.{_≡_}
 use Prim.Native.Nat.{ℕ, _%_, _<_}
 use lib.Dec.{eqb}
 use Rattle.word.specs.Choice.{pick, Table, _⇒_¦_, otherwise, look}
-use Rattle.word.specs.Row.{Field, readOf}
+use Rattle.word.specs.Row.{Field, rowReadOf}
 use Rattle.isa.specs.declared.Mode.{Mode}
 use Rattle.csr.specs.Row.{rowOf, fours, word}
 use Rattle.csr.specs.declared.Csr.{Csr}
@@ -14,7 +14,7 @@ use Rattle.csr.specs.declared.Csr.the-variants.{Sscratch, Sepc, Scause, Stval, 
 use Rattle.rights.specs.Reach.{reachOf}
 use Rattle.rights.specs.declared.reach.Reached.the-variants.{To}
 use Rattle.words.specs.Setting.{switches}
-use Rattle.words.specs.Words.{COUNT, slotOf}
+use Rattle.words.specs.Words.{COUNT, csrSlotOf}
 use Rattle.handler.specs.declared.Found.{Found}
 use Rattle.handler.specs.declared.Found.the-variants.{At, Nowhere}
 
@@ -39,18 +39,18 @@ rowAt address = pick (eqb (address % 4) 1) fours word
 
 -- what a read of the word v shows; a write of v leaves the same
 unfoldable pub heldOf : (address v : ℕ) → ℕ
-heldOf address v = readOf (rowAt address) v
+heldOf address v = rowReadOf (rowAt address) v
 
 -- mode m reaches, by this address, the CSR that it names: its word is the one at k, its row the address' own, and no setting depends on it
-abbrev pub Stands : (k address : ℕ) → Mode → Type 0
-Stands k address m =
+abbrev pub CsrStands : (k address : ℕ) → Mode → Type 0
+CsrStands k address m =
     (k < COUNT)
-    × (k ≡ slotOf (namedOf address))
+    × (k ≡ csrSlotOf (namedOf address))
     × ((permitted : Bool) → reachOf m permitted address ≡ To (namedOf address))
     × ((sse : Bool) → rowOf (namedOf address) sse ≡ rowAt address)
-    × (switches (slotOf (namedOf address)) ≡ false)
+    × (switches (csrSlotOf (namedOf address)) ≡ false)
 
 -- an address that was found is one of the eight; one that was not goes the whole way
 abbrev pub Finds : Found → (address : ℕ) → Mode → Type 0
-Finds (At k) address m = Stands k address m
+Finds (At k) address m = CsrStands k address m
 Finds Nowhere address m = Unit {0}

@@ -20,7 +20,7 @@ ghost use Rattle.word.specs.Field.{bits};
 ghost use Rattle.isa.specs.declared.CsrSource.the-variants.{Register};
 ghost use Rattle.decoder.specs.Decode.{decodeOf};
 ghost use Rattle.status.specs.Mode.{modeOf};
-ghost use Rattle.effect.specs.Csrs.{csrOf, writesOf, mergedOf};
+ghost use Rattle.effect.specs.Csrs.{csrEffectOf, writesOf, mergedOf};
 ghost use Rattle.effect.specs.Register.{regOf, putOf};
 ghost use Rattle.regime.specs.declared.Setting.{Setting};
 ghost use Rattle.words.specs.Words.{_of_, _but_≔_, COUNT, MODE};
@@ -102,7 +102,7 @@ fn csr(
 // A word whose opcode and funct3 are those of CSR operation o with a register.
 fn csr_word(w: u32, x: &mut [u64; 32], rest: &mut [u64; COUNT], o: CsrOperation) -> bool
     ensures { λ r. ⌜ ((next : ℕ) (permitted : Bool)
-        → Handles r (csrOf o (Register (bits w 19 15)) (bits w 11 7) (bits w 31 20) w (now (x .entry)) next
+        → Handles r (csrEffectOf o (Register (bits w 19 15)) (bits w 11 7) (bits w 31 20) w (now (x .entry)) next
         (modeOf (MODE of now (rest .entry))) permitted)
         (now (x .entry)) (now (rest .entry)) next (now (x .exit)) (now (rest .exit))) ⌝ }
 {

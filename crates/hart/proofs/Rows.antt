@@ -8,6 +8,7 @@ use Prim.Native.Nat.{ℕ}
 use Rattle.decoder.proofs.Examples.{row-5, row-8, row-9}
 use Rattle.meaning.specs.Instruction.{nextOf, executeOf}
 use Rattle.effect.specs.Jump.{jalrOf}
+use Rattle.meaning.specs.declared.Source.the-variants.{Given}
 use Rattle.meaning.specs.Plan.{fetchedOf, landedOf, arrivedOf, effectOf}
 use Rattle.effect.specs.Register.{regOf, putOf}
 use Rattle.regime.specs.Regime.{shadowOn, padOn}
@@ -15,7 +16,12 @@ use Rattle.words.specs.Words.{_of_, _but_≔_, expected, PC, MODE, ELP, SSP, SE
 use Rattle.words.specs.Setting.{settingOf}
 use Rattle.words.specs.Trap.{trapOf}
 use Rattle.hart.specs.Hart.{hart}
-use Rattle.hart.specs.Step.{Outcome, stepFrom, stepWordOf}
+use Rattle.hart.specs.Step.{Outcome, stepFrom}
+use Rattle.hart.specs.declared.Hart.{Hart}
+
+-- the step that takes a given word as if it had been fetched there
+abbrev stepWordOf : (word : ℕ) → Hart → (m map : List ℕ) → Outcome
+stepWordOf word h m map = stepFrom (Given word) h m map
 
 -- a step that did not trap and left memory as it was
 abbrev went : (x w m : List ℕ) → Outcome

@@ -1,4 +1,4 @@
--- One step: the effect of the instruction, applied to the hart and to memory. `stepOf` fetches, `stepWordOf` takes a word.
+-- One step: the effect of the instruction, applied to the hart and to memory. `stepFrom Fetch` fetches, `stepFrom (Given word)` takes a word.
 -- Rules 10.1 to 10.3 and 4.32 of docs/HART.md.
 --
 -- Below, h is the hart, m memory, e the effect.
@@ -16,7 +16,6 @@ use Rattle.effect.specs.declared.Effect.{Effect}
 use Rattle.effect.specs.declared.Effect.the-variants.{Write, Jump, Pad, Store, Push, Pop, Swap, Trap}
 use Rattle.effect.specs.declared.Effect.the-variants as effect
 use Rattle.meaning.specs.declared.Source.{Source}
-use Rattle.meaning.specs.declared.Source.the-variants.{Fetch, Given}
 use Rattle.effect.specs.declared.Whole.{Whole}
 use Rattle.effect.specs.declared.Whole.the-variants as whole
 use Rattle.words.specs.Words.{_of_, _but_≔_, expected, flagOf, PC, ELP, SSP}
@@ -91,14 +90,6 @@ planOf source h m map = effectOf source (h .x) (PC of h .words) (expected (h .wo
 
 unfoldable pub stepFrom : Source → Hart → (m map : List ℕ) → Outcome
 stepFrom source h m map = outcomeOf (planOf source h m map) h m
-
--- the step that fetches at pc
-abbrev pub stepOf : Hart → (m map : List ℕ) → Outcome
-stepOf h m map = stepFrom Fetch h m map
-
--- the step that takes a given word as if it had been fetched there
-abbrev pub stepWordOf : (word : ℕ) → Hart → (m map : List ℕ) → Outcome
-stepWordOf word h m map = stepFrom (Given word) h m map
 
 -- an outcome as the code hands it back, memory apart
 abbrev pub steppedOf : Outcome → Stepped

@@ -11,9 +11,9 @@ use lib.ListN.{length, getD, set, length-set}
 use lib.Seq.{sets, length-sets, getD-set-same, getD-set-other}
 use Rattle.word.specs.Choice.{pick}
 use Rattle.word.proofs.Either.{either}
-use Rattle.hex.specs.Line.{kindOf, countOf, addressOf, dataOf, good}
+use Rattle.hex.specs.Line.{recordTypeOf, recordCountOf, recordAddressOf, dataOf, good}
 use Rattle.hex.specs.Load.{placed}
-use Rattle.hex.specs.Named.{names, dataAt}
+use Rattle.hex.proofs.Named.{names, dataAt}
 use Rattle.hex.proofs.Digits.{by-test}
 use Rattle.hex.proofs.Good.{data-length, data-inside, placed-other}
 
@@ -41,46 +41,46 @@ length-either false mem i vs = refl
 
 pub length-placed : (upper : ℕ) (l mem : List ℕ) → length (placed upper l mem) ≡ length mem
 unfolding placed
-length-placed upper l mem = length-either (eqb (kindOf l) 0) mem (addressOf upper l - 0x8000_0000) (dataOf l)
+length-placed upper l mem = length-either (eqb (recordTypeOf l) 0) mem (recordAddressOf upper l - 0x8000_0000) (dataOf l)
 
 -- one byte after a good record: what the record has for it, or what it was
 module _ (upper : ℕ) (l mem : List ℕ) (g : good (length mem) upper l ≡ true) (j : ℕ) where
   abbrev After : Type 0
   After = getD (placed upper l mem) j 0 ≡ pick (names upper l j) (dataAt upper l j) (getD mem j 0)
 
-  other : (kindOf l ≡ 0 → ⊥) → After
+  other : (recordTypeOf l ≡ 0 → ⊥) → After
   unfolding names
-  other h = rw (ne-eqb (kindOf l) 0 h) (ap (λ (m : List ℕ). getD m j 0) (sym (placed-other upper l mem h)))
+  other h = rw (ne-eqb (recordTypeOf l) 0 h) (ap (λ (m : List ℕ). getD m j 0) (sym (placed-other upper l mem h)))
 
-  module _ (k : kindOf l ≡ 0) where
-    lower : 0x8000_0000 + j < addressOf upper l → After
+  module _ (k : recordTypeOf l ≡ 0) where
+    lower : 0x8000_0000 + j < recordAddressOf upper l → After
     unfolding names placed
     lower h =
-        rw (eq-eqb (kindOf l) 0 k, lt-leb (addressOf upper l) (0x8000_0000 + j) h)
-        (before (dataOf l) mem (addressOf upper l - 0x8000_0000) j (omega arith))
+        rw (eq-eqb (recordTypeOf l) 0 k, lt-leb (recordAddressOf upper l) (0x8000_0000 + j) h)
+        (before (dataOf l) mem (recordAddressOf upper l - 0x8000_0000) j (omega arith))
 
-    module _ (h : addressOf upper l ≤ 0x8000_0000 + j) where
-      higher : addressOf upper l + countOf l ≤ 0x8000_0000 + j → After
+    module _ (h : recordAddressOf upper l ≤ 0x8000_0000 + j) where
+      higher : recordAddressOf upper l + recordCountOf l ≤ 0x8000_0000 + j → After
       unfolding names placed
       higher i =
           let c = data-length (length mem) upper l g in
-          let fits : addressOf upper l - 0x8000_0000 + length (dataOf l) ≤ j =
-          either 0 (countOf l) (λ n. let (a, b) = data-inside (length mem) upper l g k n in omega arith) (λ n. omega arith) in
-          rw (eq-eqb (kindOf l) 0 k, le-leb (addressOf upper l) (0x8000_0000 + j) h, le-ltb (0x8000_0000 + j) (addressOf upper l + countOf l) i)
-          (behind (dataOf l) mem (addressOf upper l - 0x8000_0000) j fits)
+          let fits : recordAddressOf upper l - 0x8000_0000 + length (dataOf l) ≤ j =
+          either 0 (recordCountOf l) (λ n. let (a, b) = data-inside (length mem) upper l g k n in omega arith) (λ n. omega arith) in
+          rw (eq-eqb (recordTypeOf l) 0 k, le-leb (recordAddressOf upper l) (0x8000_0000 + j) h, le-ltb (0x8000_0000 + j) (recordAddressOf upper l + recordCountOf l) i)
+          (behind (dataOf l) mem (recordAddressOf upper l - 0x8000_0000) j fits)
 
-      inner : 0x8000_0000 + j < addressOf upper l + countOf l → After
+      inner : 0x8000_0000 + j < recordAddressOf upper l + recordCountOf l → After
       unfolding names placed dataAt
       inner i =
           let (a, b) = data-inside (length mem) upper l g k (omega arith) in
           let c = data-length (length mem) upper l g in
-          let e : j ≡ addressOf upper l - 0x8000_0000 + (0x8000_0000 + j - addressOf upper l) = omega arith in
-          rw (eq-eqb (kindOf l) 0 k, le-leb (addressOf upper l) (0x8000_0000 + j) h, lt-ltb (0x8000_0000 + j) (addressOf upper l + countOf l) i)
-          (ap (λ (x : ℕ). getD (sets mem (addressOf upper l - 0x8000_0000) (dataOf l)) x 0) e
-          ∙ within (dataOf l) mem (addressOf upper l - 0x8000_0000) (0x8000_0000 + j - addressOf upper l) (omega arith) (omega arith))
+          let e : j ≡ recordAddressOf upper l - 0x8000_0000 + (0x8000_0000 + j - recordAddressOf upper l) = omega arith in
+          rw (eq-eqb (recordTypeOf l) 0 k, le-leb (recordAddressOf upper l) (0x8000_0000 + j) h, lt-ltb (0x8000_0000 + j) (recordAddressOf upper l + recordCountOf l) i)
+          (ap (λ (x : ℕ). getD (sets mem (recordAddressOf upper l - 0x8000_0000) (dataOf l)) x 0) e
+          ∙ within (dataOf l) mem (recordAddressOf upper l - 0x8000_0000) (0x8000_0000 + j - recordAddressOf upper l) (omega arith) (omega arith))
 
     any : After
-    any = either (0x8000_0000 + j) (addressOf upper l) lower (λ h. either (0x8000_0000 + j) (addressOf upper l + countOf l) (inner h) (higher h))
+    any = either (0x8000_0000 + j) (recordAddressOf upper l) lower (λ h. either (0x8000_0000 + j) (recordAddressOf upper l + recordCountOf l) (inner h) (higher h))
 
   pub placed-byte : After
-  placed-byte = by-test (eqb (kindOf l) 0) (λ e. any (eqb-true (kindOf l) 0 e)) (λ e. other (eqb-false (kindOf l) 0 e))
+  placed-byte = by-test (eqb (recordTypeOf l) 0) (λ e. any (eqb-true (recordTypeOf l) 0 e)) (λ e. other (eqb-false (recordTypeOf l) 0 e))

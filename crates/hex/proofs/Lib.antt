@@ -9,6 +9,7 @@ pub mod Turns
 pub mod Whole
 pub mod Readings
 pub mod Loads
+pub mod Named
 pub mod Bytes
 pub mod Kept
 pub mod Order

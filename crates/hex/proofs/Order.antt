@@ -9,9 +9,9 @@ use lib.Seq.{ext-getD}
 use Rattle.word.specs.Choice.{pick}
 use Rattle.word.proofs.Bools.{both}
 use Rattle.hex.specs.Lines.{linesOf}
-use Rattle.hex.specs.Line.{kindOf, good}
-use Rattle.hex.specs.Load.{upperAfter, textAfter, firstBad, noStart, startAfter, lastStart, answered, loadOf}
-use Rattle.hex.specs.Named.{names, upperAt, dataAt, byteAfter}
+use Rattle.hex.specs.Line.{recordTypeOf, good}
+use Rattle.hex.specs.Load.{upperAfter, textAfter, firstBad, noStart, startAfter, lastStart, answered, loadHexOf}
+use Rattle.hex.proofs.Named.{names, upperAt, dataAt, byteAfter}
 use Rattle.hex.specs.Inner.{allGood}
 use Rattle.hex.specs.declared.line.Start.{Start}
 use Rattle.hex.specs.declared.Loaded.{Loaded}
@@ -30,15 +30,15 @@ all-behind len upper (f ∷ front) ls h =
     all-behind len (upperAfter upper f) front ls (both (good len upper f) (allGood len (upperAfter upper f) (front ++ ls)) h .1)
 
 -- a data record sets no address
-data-upper : (upper : ℕ) (l : List ℕ) → kindOf l ≡ 0 → upperAfter upper l ≡ upper
+data-upper : (upper : ℕ) (l : List ℕ) → recordTypeOf l ≡ 0 → upperAfter upper l ≡ upper
 unfolding upperAfter
 data-upper upper l e = rw e
 
-data-start : (s : Start) (l : List ℕ) → kindOf l ≡ 0 → startAfter s l ≡ s
+data-start : (s : Start) (l : List ℕ) → recordTypeOf l ≡ 0 → startAfter s l ≡ s
 unfolding startAfter
 data-start s l e = rw e
 
-module _ (k l : List ℕ) (back : List (List ℕ)) (p : kindOf k ≡ 0) (q : kindOf l ≡ 0) where
+module _ (k l : List ℕ) (back : List (List ℕ)) (p : recordTypeOf k ≡ 0) (q : recordTypeOf l ≡ 0) where
   goods : (len upper : ℕ) → allGood len upper (k ∷ l ∷ back) ≡ true → (good len upper k ≡ true) × (good len upper l ≡ true)
   unfolding allGood
   goods len upper h =
@@ -79,8 +79,8 @@ module _ (k l : List ℕ) (back : List (List ℕ)) (p : kindOf k ≡ 0) (q : kin
   -- a text that has the two the other way round does the same
   pub order : (text text′ mem : List ℕ) (front : List (List ℕ)) → linesOf text ≡ front ++ k ∷ l ∷ back → linesOf text′ ≡ front ++ l ∷ k ∷ back
       → ((j : ℕ) → names (upperAt 0 front) k j && names (upperAt 0 front) l j ≡ false)
-      → loadOf text mem .answer .refusal ≡ 0
-      → (loadOf text′ mem .answer ≡ loadOf text mem .answer) × (loadOf text′ mem .memory ≡ loadOf text mem .memory)
+      → loadHexOf text mem .answer .refusal ≡ 0
+      → (loadHexOf text′ mem .answer ≡ loadHexOf text mem .answer) × (loadHexOf text′ mem .memory ≡ loadHexOf text mem .memory)
   order text text′ mem front e f d h =
       let (ok, z) = accepted text mem h in
       let (gk, gl) = goods (length mem) (upperAt 0 front) (all-behind (length mem) 0 front (k ∷ l ∷ back) (rw e at (all-good text mem h))) in

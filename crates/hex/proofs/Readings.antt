@@ -8,15 +8,15 @@ use native.Mathlib.Omega.{arith}
 use lib.ListN.{length, getD}
 use Rattle.word.proofs.Either.{either}
 use Rattle.hex.specs.Digits.{pairsOf}
-use Rattle.hex.specs.Line.{byteOf, countOf, good}
-use Rattle.hex.specs.Inner.{weightOf, lineAt, Judged, Ends, Read}
+use Rattle.hex.specs.Line.{byteOf, recordCountOf, good}
+use Rattle.hex.specs.Inner.{weightOf, lineAt, Judged, Ends, LineRead}
 use Rattle.hex.proofs.Digits.{by-test, pair-good}
 use Rattle.hex.proofs.Good.{bad-sum}
 use Rattle.hex.proofs.Scans.{two, no-colon, begun, spoilt-sum, line-long, sum-is, cut}
 use Rattle.hex.proofs.Whole.{long, fits, count-is, count-most, over}
 
 -- a line with another sum than 0 is not good
-pub read-bad : (t : List ℕ) (at s stop next : ℕ) → Read t at s stop next → (s ≡ 0 → ⊥) → (len upper : ℕ) → good len upper (lineAt t at) ≡ false
+pub read-bad : (t : List ℕ) (at s stop next : ℕ) → LineRead t at s stop next → (s ≡ 0 → ⊥) → (len upper : ℕ) → good len upper (lineAt t at) ≡ false
 read-bad t at s stop next r n len upper =
     either s 256
     (λ l. bad-sum (lineAt t at) len upper (λ z. n (sym (r .sum l) ∙ z)))
@@ -24,7 +24,7 @@ read-bad t at s stop next r n len upper =
 
 module _ (t : List ℕ) (at : ℕ) where
   -- a line that is none, by what a good one would be
-  pub read-none : (s stop next : ℕ) → s ≡ 256 → ((len upper : ℕ) → good len upper (lineAt t at) ≡ false) → Read t at s stop next
+  pub read-none : (s stop next : ℕ) → s ≡ 256 → ((len upper : ℕ) → good len upper (lineAt t at) ≡ false) → LineRead t at s stop next
   read-none s stop next e b =
       record { cut = λ l. absurd (omega arith); sum = λ l. absurd (omega arith); long = λ l. absurd (omega arith); wrong = λ _. b }
 
@@ -57,7 +57,7 @@ module _ (t : List ℕ) (at : ℕ) where
     -- a line with room, and its pairs
     module _ (start : at < length t) (c : getD t at 0 ≡ 58) (most : b ≤ 255) (room : at + (11 + 2 * b) ≤ length t) (s : ℕ)
         (j : Judged t (at + 1) (at + (11 + 2 * b)) s) (next : ℕ) (x : Ends t (at + (11 + 2 * b)) next) (n : 0 < next) where
-      count : countOf (lineAt t at) ≡ b
+      count : recordCountOf (lineAt t at) ≡ b
       unfolding byteOf pairsOf
       count =
           let (l, _) = two t (at + 1) b (omega arith) e most in
@@ -73,7 +73,7 @@ module _ (t : List ℕ) (at : ℕ) where
           bad-sum (lineAt t at) len upper (λ y. omega arith))
           (λ g. g)
 
-      pub read-line : Read t at s (at + (11 + 2 * b)) next
+      pub read-line : LineRead t at s (at + (11 + 2 * b)) next
       read-line = record {
         cut = λ l. cut t at start c _ s (j .right l) next x n;
         sum = λ l. sym (sum-is t at start c _ s (j .right l) next x n (omega arith));

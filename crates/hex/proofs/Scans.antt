@@ -14,7 +14,7 @@ use Rattle.word.specs.Choice.{pick}
 use Rattle.word.proofs.Either.{either}
 use Rattle.hex.specs.Digits.{hexPairs}
 use Rattle.hex.specs.Line.{colon}
-use Rattle.hex.specs.Inner.{weightOf, lineAt, linesBehind, sumFrom, sumOf, Paired, Judged, Ends, Cut}
+use Rattle.hex.specs.Inner.{weightOf, lineAt, linesBehind, sumFrom, lineSumOf, Paired, Judged, Ends, Cut}
 use Rattle.hex.proofs.Digits.{weight-most, pair-good, pair-bad, pair-large, no-end}
 use Rattle.hex.proofs.Lines.{at-place, some, first-byte, goes-on}
 use Rattle.hex.proofs.Pairs.{sum-none, sum-pair, sum-bad}
@@ -126,22 +126,22 @@ same false n = refl
 
 -- the line that starts at a place
 module _ (t : List ℕ) (at : ℕ) (start : at < length t) where
-  pub no-colon : (getD t at 0 ≡ 58 → ⊥) → 256 ≡ sumOf (lineAt t at)
-  unfolding sumOf colon
+  pub no-colon : (getD t at 0 ≡ 58 → ⊥) → 256 ≡ lineSumOf (lineAt t at)
+  unfolding lineSumOf colon
   no-colon n = first-byte t at start (λ z. rw z) (λ z. rw (z, ne-eqb (getD t at 0) 58 n))
 
   module _ (c : getD t at 0 ≡ 58) where
     pub begun : (lineAt t at ≡ getD t at 0 ∷ lineAt t (at + 1)) × (linesBehind t at ≡ linesBehind t (at + 1))
     begun = goes-on t at start (λ z. omega arith) (λ z _. omega arith)
 
-    pub spoilt-sum : sumFrom 0 (lineAt t (at + 1)) ≡ 256 → sumOf (lineAt t at) ≡ 256
-    unfolding sumOf colon
+    pub spoilt-sum : sumFrom 0 (lineAt t (at + 1)) ≡ 256 → lineSumOf (lineAt t at) ≡ 256
+    unfolding lineSumOf colon
     spoilt-sum h = rw (begun .0, c, h) (same (leb 11 (length (getD t at 0 ∷ lineAt t (at + 1)))) 256)
 
     -- behind a colon there are hex pairs up to stop
     module _ (stop s : ℕ) (p : Paired t (at + 1) stop s) where
-      sum-behind : sumOf (lineAt t at) ≡ pick (leb 11 (length (lineAt t at))) (sumFrom s (lineAt t stop)) 256
-      unfolding sumOf colon
+      sum-behind : lineSumOf (lineAt t at) ≡ pick (leb 11 (length (lineAt t at))) (sumFrom s (lineAt t stop)) 256
+      unfolding lineSumOf colon
       sum-behind = rw (begun .0, c, p .sum)
 
       -- and there it ends
@@ -154,10 +154,10 @@ module _ (t : List ℕ) (at : ℕ) (start : at < length t) where
         pub line-long : length (lineAt t at) ≡ stop - at
         line-long = rw line-is (length-take-le (stop - at) (drop at t) (simp length-drop (omega (arith, p .high))))
 
-        sum-ended : sumOf (lineAt t at) ≡ pick (leb 11 (stop - at)) s 256
+        sum-ended : lineSumOf (lineAt t at) ≡ pick (leb 11 (stop - at)) s 256
         sum-ended = sum-behind ∙ rw (e .ends n .0, line-long, sum-none s (p .small))
 
-        pub sum-is : at + 11 ≤ stop → s ≡ sumOf (lineAt t at)
+        pub sum-is : at + 11 ≤ stop → s ≡ lineSumOf (lineAt t at)
         sum-is h = sym (sum-ended ∙ rw (le-leb 11 (stop - at) (omega arith)))
 
         pub cut : Cut t at stop next

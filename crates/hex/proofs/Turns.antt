@@ -12,7 +12,7 @@ use lib.Seq.{take-nil}
 use Rattle.word.specs.Choice.{pick}
 use Rattle.word.proofs.Bools.{both}
 use Rattle.word.proofs.Either.{either}
-use Rattle.hex.specs.Line.{kindOf, good}
+use Rattle.hex.specs.Line.{recordTypeOf, good}
 use Rattle.hex.specs.Load.{upperAfter, startAfter, lastStart, textAfter, firstBad, placed, stored}
 use Rattle.hex.specs.Inner.{allGood}
 use Rattle.hex.specs.declared.line.Start.{Start}
@@ -30,13 +30,13 @@ module _ (len upper : ℕ) {ls : List (List ℕ)} {l : List ℕ} {more : List (L
   unfolding firstBad
   bad-line n g = rw (e, g)
 
-  pub good-line : (n : ℕ) → good len upper l ≡ true → (kindOf l ≡ 1 → ⊥) → firstBad len upper n ls ≡ firstBad len (upperAfter upper l) (n + 1) more
+  pub good-line : (n : ℕ) → good len upper l ≡ true → (recordTypeOf l ≡ 1 → ⊥) → firstBad len upper n ls ≡ firstBad len (upperAfter upper l) (n + 1) more
   unfolding firstBad
-  good-line n g k = rw (e, g, ne-eqb (kindOf l) 1 k)
+  good-line n g k = rw (e, g, ne-eqb (recordTypeOf l) 1 k)
 
-  pub end-line : (n : ℕ) → good len upper l ≡ true → kindOf l ≡ 1 → firstBad len upper n ls ≡ textAfter (n + 1) more
+  pub end-line : (n : ℕ) → good len upper l ≡ true → recordTypeOf l ≡ 1 → firstBad len upper n ls ≡ textAfter (n + 1) more
   unfolding firstBad
-  end-line n g k = rw (e, g, eq-eqb (kindOf l) 1 k)
+  end-line n g k = rw (e, g, eq-eqb (recordTypeOf l) 1 k)
 
   pub start-line : (s : Start) → lastStart s ls ≡ lastStart (startAfter s l) more
   unfolding lastStart
@@ -60,7 +60,7 @@ pub none-bad : (len upper n : ℕ) (ls : List (List ℕ)) → 0 < n → firstBad
 unfolding firstBad allGood
 none-bad len upper n [] h e = refl
 none-bad len upper n (l ∷ ls) h e =
-    step (good len upper l) (eqb (kindOf l) 1) (allGood len (upperAfter upper l) ls) (textAfter (n + 1) ls)
+    step (good len upper l) (eqb (recordTypeOf l) 1) (allGood len (upperAfter upper l) ls) (textAfter (n + 1) ls)
     (firstBad len (upperAfter upper l) (n + 1) ls) n h e
     (λ t. rw (no-text (n + 1) ls (omega arith) t))
     (λ t. none-bad len (upperAfter upper l) (n + 1) ls (omega arith) t)
@@ -85,12 +85,12 @@ unfolding allGood
 good-before len upper n [] = rw take-nil
 good-before len upper n (l ∷ ls) =
     by-test (good len upper l)
-    (λ g. by-test (eqb (kindOf l) 1)
+    (λ g. by-test (eqb (recordTypeOf l) 1)
     (λ k.
     let t = text-next (n + 1) ls in
     let e : textAfter (n + 1) ls - (n + 1) ≡ 0 = omega arith in
-    rw (end-line len upper {more = ls} refl n g (eqb-true (kindOf l) 1 k)) (front len upper (textAfter (n + 1) ls) n l ls g (rw e)))
+    rw (end-line len upper {more = ls} refl n g (eqb-true (recordTypeOf l) 1 k)) (front len upper (textAfter (n + 1) ls) n l ls g (rw e)))
     (λ k.
-    rw (good-line len upper {more = ls} refl n g (eqb-false (kindOf l) 1 k))
+    rw (good-line len upper {more = ls} refl n g (eqb-false (recordTypeOf l) 1 k))
     (front len upper (firstBad len (upperAfter upper l) (n + 1) ls) n l ls g (good-before len (upperAfter upper l) (n + 1) ls))))
     (λ g. let e : n - n ≡ 0 = omega arith in rw (bad-line len upper {more = ls} refl n g, e))

@@ -8,7 +8,7 @@ use native.Mathlib.Omega.{arith}
 use lib.ListN.{length, getD, take, drop, length-drop, length-take}
 use lib.Seq.{getD-take, getD-drop, drop-drop}
 use Rattle.word.proofs.Either.{either}
-use Rattle.hex.specs.Line.{countOf, good}
+use Rattle.hex.specs.Line.{recordCountOf, good}
 use Rattle.hex.specs.Inner.{weightOf, lineAt, Ends, Cut}
 use Rattle.hex.proofs.Digits.{weight-is}
 use Rattle.hex.proofs.Good.{well-formed, formed}
@@ -23,7 +23,7 @@ pub record Whole (t : List ℕ) (at stop len upper : ℕ) : Type 0 where
 
 -- a good line that starts at a place
 module _ (t : List ℕ) (at : ℕ) (len upper : ℕ) (g : good len upper (lineAt t at) ≡ true) where
-  pub long : length (lineAt t at) ≡ 2 * countOf (lineAt t at) + 11
+  pub long : length (lineAt t at) ≡ 2 * recordCountOf (lineAt t at) + 11
   long = formed (lineAt t at) (well-formed len upper (lineAt t at) g) .1
 
   pub fits : at + length (lineAt t at) ≤ length t
@@ -41,7 +41,7 @@ module _ (t : List ℕ) (at : ℕ) (len upper : ℕ) (g : good len upper (lineAt
   pub here : at + 1 + 1 < length t
   here = omega (arith, long, fits)
 
-  pub count-is : weightOf (getD t (at + 1) 0) * 16 + weightOf (getD t (at + 1 + 1) 0) ≡ countOf (lineAt t at)
+  pub count-is : weightOf (getD t (at + 1) 0) * 16 + weightOf (getD t (at + 1 + 1) 0) ≡ recordCountOf (lineAt t at)
   count-is =
       let f : at + 2 ≡ at + 1 + 1 = omega arith in
       let (e, p, q) = byte-at (lineAt t at) 0 (formed (lineAt t at) (well-formed len upper (lineAt t at) g) .0) (omega (arith, long)) in
@@ -49,7 +49,7 @@ module _ (t : List ℕ) (at : ℕ) (len upper : ℕ) (g : good len upper (lineAt
       let y = ap weightOf (from-text 2 (omega (arith, long)) ∙ ap (λ (i : ℕ). getD t i 0) f) in
       rw (← x, ← y, weight-is _ p, weight-is _ q) (sym e)
 
-  pub count-most : countOf (lineAt t at) ≤ 255
+  pub count-most : recordCountOf (lineAt t at) ≤ 255
   count-most =
       let (e, p, q) = byte-at (lineAt t at) 0 (formed (lineAt t at) (well-formed len upper (lineAt t at) g) .0) (omega (arith, long)) in omega arith
 

@@ -10,7 +10,7 @@ use lib.ListN.{length, getD, take, drop}
 use Rattle.word.specs.Choice.{pick}
 use Rattle.hex.specs.Digits.{digitOf, isDigit, hexPairs, pairsOf, total}
 use Rattle.hex.specs.Lines.{linesOf}
-use Rattle.hex.specs.Line.{countOf, colon, good}
+use Rattle.hex.specs.Line.{recordCountOf, colon, good}
 use Rattle.hex.specs.Load.{upperAfter}
 
 -- what the code makes of a byte: the value of a digit, and for any other byte more than all pairs of a line add up to (260 times 255)
@@ -47,8 +47,8 @@ unfoldable pub sumFrom : (s : ℕ) → (ds : List ℕ) → ℕ
 sumFrom s ds = pick (hexPairs ds) ((s + total (pairsOf ds)) % 256) 256
 
 -- the same of a line; 256 for what is not a colon and at least five hex pairs
-unfoldable pub sumOf : (l : List ℕ) → ℕ
-sumOf l = pick (colon l && leb 11 (length l)) (sumFrom 0 (drop 1 l)) 256
+unfoldable pub lineSumOf : (l : List ℕ) → ℕ
+lineSumOf l = pick (colon l && leb 11 (length l)) (sumFrom 0 (drop 1 l)) 256
 
 -- from one place to another a line has hex pairs with the sum s
 pub record Paired (t : List ℕ) (from to s : ℕ) : Type 0 where
@@ -78,10 +78,10 @@ pub record Cut (t : List ℕ) (at stop next : ℕ) : Type 0 where
   pub lines : linesOf (drop at t) ≡ take (stop - at) (drop at t) ∷ linesOf (drop next t)
 
 -- the line that starts at a place has the sum s and is as long as its count says; or s is at least 256, and it is not good
-pub record Read (t : List ℕ) (at s stop next : ℕ) : Type 0 where
+pub record LineRead (t : List ℕ) (at s stop next : ℕ) : Type 0 where
   pub cut : s < 256 → Cut t at stop next
-  pub sum : s < 256 → sumOf (lineAt t at) ≡ s
-  pub long : s < 256 → length (lineAt t at) ≡ 2 * countOf (lineAt t at) + 11
+  pub sum : s < 256 → lineSumOf (lineAt t at) ≡ s
+  pub long : s < 256 → length (lineAt t at) ≡ 2 * recordCountOf (lineAt t at) + 11
   pub wrong : 256 ≤ s → (len upper : ℕ) → good len upper (lineAt t at) ≡ false
 
 -- every line is good by itself

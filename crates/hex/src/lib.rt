@@ -1,6 +1,6 @@
 // Intel HEX in: loads the text of a HEX file into memory, or refuses it and changes nothing.
 ghost use mathlib.Core.Path.{_≡_};
-ghost use Rattle.hex.specs.Load.{loadOf};
+ghost use Rattle.hex.specs.Load.{loadHexOf};
 
 // Hex digits and pairs, and the table of them.
 mod pair;
@@ -34,8 +34,8 @@ fn refused(refusal: u64, line: u64) -> Loaded
 
 // Anything may be handed in. What a load answers and leaves of every byte of memory is stated in specs/Load.antt.
 pub fn load(text: &[u8], mem: &mut [u8]) -> Loaded
-    ensures answer { λ r. ⌜ r ≡ loadOf (now (text .entry)) (now (mem .entry)) .answer ⌝ }
-    ensures memory { λ _. ⌜ now (mem .exit) ≡ loadOf (now (text .entry)) (now (mem .entry)) .memory ⌝ }
+    ensures answer { λ r. ⌜ r ≡ loadHexOf (now (text .entry)) (now (mem .entry)) .answer ⌝ }
+    ensures memory { λ _. ⌜ now (mem .exit) ≡ loadHexOf (now (text .entry)) (now (mem .entry)) .memory ⌝ }
 {
     if memory::refused(mem.len() as u64) {
         return refused(2, 0);

@@ -4,9 +4,9 @@ ghost use mathlib.Core.Bool.{true, _&&_};
 ghost use Prim.Native.Nat.{_+_, _*_, _^_, _<_, _≤_};
 ghost use lib.Dec.{eqb};
 ghost use lib.ListN.{length};
-ghost use Rattle.hex.specs.Line.{countOf, shaped, wellFormed, isRead, inside, good};
+ghost use Rattle.hex.specs.Line.{recordCountOf, shaped, wellFormed, isRead, inside, good};
 ghost use Rattle.hex.specs.Load.{upperAfter, startAfter};
-ghost use Rattle.hex.specs.Inner.{IsTable, sumOf};
+ghost use Rattle.hex.specs.Inner.{IsTable, lineSumOf};
 use super::pair;
 
 // given is 1 if there is a start address, else 0, and then address is 0.
@@ -55,7 +55,7 @@ fn is_fit(kind: u64, count: u64, offset: u64, upper: u64, len: u64) -> bool
 
 // A line of hex pairs with the right checksum that is as long as its count says is good if it is what its type asks for.
 pub fn is_good(t: &[u64; 512], line: &[u8], upper: u64, len: u64) -> bool
-    requires { ⌜ IsTable (now t) × (sumOf (now line) ≡ 0) × (length (now line) ≡ 2 * countOf (now line) + 11) × (upper ≤ 65535) × (len ≤ 1048576) ⌝ }
+    requires { ⌜ IsTable (now t) × (lineSumOf (now line) ≡ 0) × (length (now line) ≡ 2 * recordCountOf (now line) + 11) × (upper ≤ 65535) × (len ≤ 1048576) ⌝ }
     ensures { λ r. ⌜ r ≡ good len upper (now (line .entry)) ⌝ }
 {
     is_fit(

@@ -3,7 +3,7 @@ ghost use mathlib.Core.Path.{_≡_};
 ghost use mathlib.Core.Bool.{false};
 ghost use Prim.Native.Nat.{_+_, _-_, _%_, _<_, _≤_};
 ghost use lib.ListN.{length};
-ghost use Rattle.hex.specs.Inner.{IsTable, Judged, Ends, Read};
+ghost use Rattle.hex.specs.Inner.{IsTable, Judged, Ends, LineRead};
 use super::pair;
 
 // The sum of a line modulo 256; 256 where it is none that is as long as its count says. Else the line goes up to stop, and the next starts at next.
@@ -76,7 +76,7 @@ fn none(at: usize) -> Scan
 // The line that starts at a place.
 pub fn read(t: &[u64; 512], text: &[u8], at: usize) -> Scan
     requires { ⌜ IsTable (now t) × (at < length (now text)) ⌝ }
-    ensures { λ r. ⌜ Read (now (text .entry)) at (r .sum) (r .stop) (r .next) ⌝ }
+    ensures { λ r. ⌜ LineRead (now (text .entry)) at (r .sum) (r .stop) (r .next) ⌝ }
 {
     if text[at] != 58 {
         return none(at);

@@ -6,7 +6,7 @@ ghost use lib.ListN.{length, take, drop};
 ghost use lib.Seq.{sets};
 ghost use Rattle.hex.specs.Digits.{hexPairs};
 ghost use Rattle.hex.specs.Lines.{linesOf};
-ghost use Rattle.hex.specs.Line.{bytesOf, good};
+ghost use Rattle.hex.specs.Line.{lineBytesOf, good};
 ghost use Rattle.hex.specs.Load.{placed, stored};
 ghost use Rattle.hex.specs.Inner.{IsTable, allGood};
 use super::line;
@@ -16,7 +16,7 @@ use super::scan;
 // The data of a line, put at a place.
 fn fill(t: &[u64; 512], mem: &mut [u8], to: usize, line: &[u8], count: usize)
     requires { ⌜ IsTable (now t) × (hexPairs (drop 1 (now line)) ≡ true) × (2 * count + 11 ≡ length (now line)) × (to + count ≤ length (now mem)) ⌝ }
-    ensures { λ _. ⌜ now (mem .exit) ≡ sets (now (mem .entry)) to (take count (drop 4 (bytesOf (now (line .entry))))) ⌝ }
+    ensures { λ _. ⌜ now (mem .exit) ≡ sets (now (mem .entry)) to (take count (drop 4 (lineBytesOf (now (line .entry))))) ⌝ }
 {
     let mut k = 0;
     while k < count {

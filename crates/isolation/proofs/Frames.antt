@@ -18,7 +18,7 @@ use Rattle.page.specs.declared.Regime.{Regime}
 use Rattle.leaf.specs.Leaf.{leafOf}
 use Rattle.leaf.specs.declared.Leaf as leaf
 use Rattle.judge.proofs.Grants.{Held}
-use Rattle.address.specs.Control.{modeOf, regimeOf}
+use Rattle.address.specs.Control.{effectiveModeOf, regimeOf}
 use Rattle.address.specs.declared.control.Control.{Control}
 use Rattle.place.specs.Place.{base, placeOf}
 use Rattle.place.specs.declared.Physical.{Physical}
@@ -65,7 +65,7 @@ writable g l Swap t H = both (l .w) _ (both (g .sse) _ (H .own) .1) .0
 
 module _ (c : Control) (map : List ℕ) (user : c .mode ≡ User) (sv39 : c .sv39 ≡ true) where
   -- a leaf that granted an access in user mode has its U bit
-  user-held : (k : Kind) (e : ℕ) → Held (regimeOf c (modeOf c k)) k (leafOf e) → leafOf e .u ≡ true
+  user-held : (k : Kind) (e : ℕ) → Held (regimeOf c (effectiveModeOf c k)) k (leafOf e) → leafOf e .u ≡ true
   user-held k e H =
       let U : Held (regimeOf c User) k (leafOf e) = rw (user-mode c k user) at H in
       U .user
@@ -96,7 +96,7 @@ module _ (c : Control) (map : List ℕ) (user : c .mode ≡ User) (sv39 : c .sv3
         stands = B .stands;
         valid = (
           (B .valid, user-held k (leafAt map (B .entry)) (B .held)),
-          writable (regimeOf c (modeOf c k)) (leafOf (leafAt map (B .entry))) k t (B .held),
+          writable (regimeOf c (effectiveModeOf c k)) (leafOf (leafAt map (B .entry))) k t (B .held),
         );
         names = behind-names c k w a map len q e paged i l;
       }

@@ -8,7 +8,7 @@ use Rattle.words.specs.Words.{_of_, MODE, SATP}
 use Rattle.hart.specs.declared.Hart.{Hart}
 use Rattle.origin.specs.Force.{inForce, leafAt}
 use Rattle.origin.proofs.Users.{in-user, sv39-on}
-use Rattle.isolation.specs.Unseen.{Taken, Marked, Seen, Keeps, Call, sessionOf, Starts, Unseen, ClaimBy, Claim}
+use Rattle.isolation.specs.Unseen.{Taken, Marked, Seen, Keeps, Call, sessionOf, IsolationStarts, Unseen, ClaimBy, IsolationClaim}
 use Rattle.isolation.proofs.Bytes.{keeps-fewer}
 use Rattle.isolation.proofs.Frames.{Writable, marked, covers-more, writes-there}
 use Rattle.isolation.proofs.Runs.{Sessions, sessions}
@@ -18,7 +18,7 @@ module _ (Valid : Control → (e : ℕ) → Type 0) (named : (c : Control) (e : 
   seen : (c : Control) (map : List ℕ) (o : ℕ) → Seen Writable c map o → Seen Valid c map o
   seen c map o N = record { entry = N .entry; stands = N .stands; valid = named c (leafAt map (N .entry)) (N .valid .0); names = N .names }
 
-  module _ (map : List ℕ) (h : Hart) (m n : List ℕ) (S : Starts Valid map h m n) (calls : List Call) where
+  module _ (map : List ℕ) (h : Hart) (m n : List ℕ) (S : IsolationStarts Valid map h m n) (calls : List Call) where
     abbrev c : Control
     c = inForce h
 
@@ -45,7 +45,7 @@ by-step-5 map h m n S calls = unseen Taken (λ c e t. t) map h m n S calls
 pub by-bits : ClaimBy Marked
 by-bits map h m n S calls = unseen Marked marked map h m n S calls
 
-pub isolation : Claim
+pub isolation : IsolationClaim
 isolation = (by-step-5, by-bits)
 
 -- and more than was asked: what no valid entry with its U bit and W names keeps its bytes too, so a frame that may only be read does.

@@ -13,7 +13,7 @@ use Rattle.word.proofs.Bools.{both}
 use Rattle.word.proofs.Either.{either}
 use Rattle.leaf.specs.Leaf.{leafOf, hasRight}
 use Rattle.page.proofs.Entries.{lookup-stands, entry-found}
-use Rattle.page.specs.Map.{lookupOf, refusedOf}
+use Rattle.page.specs.Map.{lookupOf, mapRefusedOf}
 use Rattle.page.specs.declared.map.Found.the-variants.{Leaf}
 use Rattle.address.specs.declared.control.Control.{Control}
 use Rattle.place.specs.Place.{frameOf}
@@ -21,7 +21,7 @@ use Rattle.hart.specs.declared.Hart.{Hart}
 use Rattle.call.specs.Call.{Called, runCall}
 use Rattle.call.specs.declared.Answer.{Answer}
 use Rattle.origin.specs.Force.{inForce, leafAt}
-use Rattle.isolation.specs.Unseen.{Taken, Named, Seen, Alike, Keeps, run, followed, sessionOf, Starts}
+use Rattle.isolation.specs.Unseen.{Taken, Named, Seen, Alike, Keeps, run, callFollowed, sessionOf, IsolationStarts}
 use Rattle.isolation.proofs.Isolation.{by-step-5}
 
 -- "differ only in frames that are not named": a byte that differs does not lie in a named frame. That is `Alike`'s clause
@@ -53,8 +53,8 @@ unfolding sessionOf
 alone budget h m map = go (runCall budget h m map .answer .trapped) (runCall budget h m map)
   where
     go : (t : Bool) (c : Called)
-        → (followed t c (record { answers = []; memory = c .memory }) .answers ≡ c .answer ∷ [])
-        × (followed t c (record { answers = []; memory = c .memory }) .memory ≡ c .memory)
+        → (callFollowed t c (record { answers = []; memory = c .memory }) .answers ≡ c .answer ∷ [])
+        × (callFollowed t c (record { answers = []; memory = c .memory }) .memory ≡ c .memory)
     go true c = (refl, refl)
     go false c = (refl, refl)
 
@@ -62,7 +62,7 @@ first-one : (a b : Answer) (l r : List Answer) → (a ∷ l) ≡ (b ∷ r) → a
 first-one a b l r e = cc
 
 -- a single run, of any budget
-pub one-run : (map : List ℕ) (h : Hart) (m n : List ℕ) → Starts Taken map h m n → (budget : ℕ)
+pub one-run : (map : List ℕ) (h : Hart) (m n : List ℕ) → IsolationStarts Taken map h m n → (budget : ℕ)
     → (runCall budget h m map .answer ≡ runCall budget h n map .answer)
     × Alike (Seen Taken (inForce h) map) (runCall budget h m map .memory) (runCall budget h n map .memory)
     × Keeps (Seen Taken (inForce h) map) m (runCall budget h m map .memory)
@@ -85,7 +85,7 @@ pub record NamedByPage (Valid : Control → (e : ℕ) → Type 0) (c : Control) 
   pub valid : Valid c leaf
   pub names : frameOf leaf ≡ frame
 
-pub by-page : (Valid : Control → (e : ℕ) → Type 0) (c : Control) (map : List ℕ) (frame : ℕ) → refusedOf map ≡ false
+pub by-page : (Valid : Control → (e : ℕ) → Type 0) (c : Control) (map : List ℕ) (frame : ℕ) → mapRefusedOf map ≡ false
     → Named Valid c map frame ↔ NamedByPage Valid c map frame
 by-page Valid c map frame ok = (
   (λ N.

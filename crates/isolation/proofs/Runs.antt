@@ -16,7 +16,7 @@ use Rattle.hart.specs.Step.{applyOf, trapsOf, outcomeOf, planOf, stepFrom}
 use Rattle.hart.specs.declared.Hart.{Hart}
 use Rattle.call.specs.Call.{Called, refusalOf, runRefusalOf, refusedWith, takenWith, stepFromCall, runCall}
 use Rattle.call.specs.declared.Answer.{Answer}
-use Rattle.isolation.specs.Unseen.{Alike, Keeps, Call, step, stepWord, callOf, Session, followed, sessionOf}
+use Rattle.isolation.specs.Unseen.{Alike, Keeps, Call, step, stepWord, callOf, Session, callFollowed, sessionOf}
 use Rattle.isolation.specs.Unseen as unseen
 use Rattle.isolation.proofs.Bytes.{keeps-all, keeps-on}
 use Rattle.isolation.proofs.Steps.{Confined, Left, step-same, step-left, step-confined}
@@ -116,7 +116,7 @@ module _ (Of To : (o : ℕ) → Type 0) (map : List ℕ) where
     pub own′ : Keeps To n (d .memory)
 
   going-on : (t : Bool) (m n : List ℕ) (c d : Called) (r s : Session) → c .answer .trapped ≡ t → Calls m n c d
-      → (c .answer .trapped ≡ false → Sessions (c .memory) (d .memory) r s) → Sessions m n (followed t c r) (followed t d s)
+      → (c .answer .trapped ≡ false → Sessions (c .memory) (d .memory) r s) → Sessions m n (callFollowed t c r) (callFollowed t d s)
   going-on true m n c d r s e K f =
       record { answers = ap (λ (a : Answer). a ∷ []) (K .answer); alike = K .alike; own = K .own; own′ = K .own′ }
   going-on false m n c d r s e K f =

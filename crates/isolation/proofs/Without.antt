@@ -36,7 +36,7 @@ use Rattle.hart.specs.declared.Hart.{Hart}
 use Rattle.call.specs.Call.{refusalOf, stepFromCall, stepWordCall}
 use Rattle.call.specs.declared.Answer.{Answer}
 use Rattle.origin.specs.Force.{inForce}
-use Rattle.isolation.specs.Unseen.{Taken, Seen, Alike, Call, stepWord, sessionOf, Starts, Unseen}
+use Rattle.isolation.specs.Unseen.{Taken, Seen, Alike, Call, stepWord, sessionOf, IsolationStarts, Unseen}
 use Rattle.isolation.proofs.Witness.{front, memoryWith, map₀, hart₀, withWord, withReg, alike₀}
 
 -- ld x6, 0(x3), as a row of one call
@@ -59,7 +59,7 @@ abbrev pub Agree : Hart → Type 0
 Agree h = Alike (Seen Taken (inForce h) map₀) (memoryWith 0xAA) (memoryWith 0xBB)
 
 -- these are all
-pub together : (h : Hart) → InUser h → Sv39 h → Agree h → Starts Taken map₀ h (memoryWith 0xAA) (memoryWith 0xBB)
+pub together : (h : Hart) → InUser h → Sv39 h → Agree h → IsolationStarts Taken map₀ h (memoryWith 0xAA) (memoryWith 0xBB)
 together h user sv39 alike = record { user = user; sv39 = sv39; alike = alike }
 
 abbrev pub Breaks : Hart → Type 0
@@ -119,9 +119,9 @@ record Computed : Type 0 where
   above-other : sixth (sessionOf look hartAbove (zeroed 4096) mapAbove .answers) ≡ 1
 
 computed : Computed
-unfolding sessionOf stepFromCall refusalOf legal wordsLegal memory.refusedOf page.refusedOf page.pagesOf page.anyLarge page.riseFrom
-    page.strictlyRise stepFrom effectOf fetchedOf arrivedOf landedOf executeOf decodeOf base.loadOf system.systemOf accessOf passedOf atOf doneOf
-    placeOf reachedOf control.modeOf transformedOf maskOf alignedOf pagedPlaceOf plainPlaceOf throughOf page.lookupOf settleOf judgeOf insideOf
+unfolding sessionOf stepFromCall refusalOf legal wordsLegal memory.memoryRefusedOf page.mapRefusedOf page.pagesOf page.anyLarge page.riseFrom
+    page.strictlyRise stepFrom effectOf fetchedOf arrivedOf landedOf executeOf decodeOf base.decodeLoadOf system.systemOf accessOf passedOf atOf doneOf
+    placeOf reachedOf control.effectiveModeOf transformedOf maskOf alignedOf pagedPlaceOf plainPlaceOf throughOf page.lookupOf settleOf judgeOf insideOf
     withinOf settingOf controlOf shadowOn padOn modeOf memoryWith front bytesOf number loadOf storeOf extendOf trapOf trapM enterM
 computed = record {
   supervisor-one = refl;
@@ -158,7 +158,7 @@ needs-sv39 = (
 -- "Up to and including the first trap": from a start that meets all, one step traps, with one answer in both memories; a step from the hart that
 -- it leaves breaks it
 pub needs-stop :
-    Starts Taken map₀ aimed (memoryWith 0xAA) (memoryWith 0xBB)
+    IsolationStarts Taken map₀ aimed (memoryWith 0xAA) (memoryWith 0xBB)
     × (stepWordCall ecall aimed (memoryWith 0xAA) map₀ .answer ≡ record { refusal = 0; hart = trapped; count = 1; trapped = true; cause = 8 })
     × (stepWordCall ecall aimed (memoryWith 0xBB) map₀ .answer ≡ record { refusal = 0; hart = trapped; count = 1; trapped = true; cause = 8 })
     × Breaks trapped

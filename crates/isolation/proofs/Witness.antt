@@ -45,7 +45,7 @@ use Rattle.call.specs.Call.{refusalOf, runRefusalOf, takenWith, runCall}
 use Rattle.call.specs.declared.Answer.{Answer}
 use Rattle.origin.specs.Force.{inForce, leafAt, Entry}
 use Rattle.hart.proofs.Longer.{run-longer}
-use Rattle.isolation.specs.Unseen.{Taken, Marked, Seen, Alike, run, sessionOf, Starts}
+use Rattle.isolation.specs.Unseen.{Taken, Marked, Seen, Alike, run, sessionOf, IsolationStarts}
 use Rattle.isolation.proofs.Isolation.{by-step-5}
 
 -- ld x5, 0(x2); sd x5, 8(x2); ld x6, 0(x3)
@@ -129,11 +129,11 @@ alike₀ c = record {
 }
 
 -- the hypotheses
-pub starts : Starts Taken map₀ hart₀ (memoryWith 0xAA) (memoryWith 0xBB)
+pub starts : IsolationStarts Taken map₀ hart₀ (memoryWith 0xAA) (memoryWith 0xBB)
 starts = record { user = refl; sv39 = refl; alike = alike₀ (inForce hart₀) }
 
 -- by the bits alone page 5 names the other supplier's frame, and then the memories may not differ there
-pub not-by-bits : Starts Marked map₀ hart₀ (memoryWith 0xAA) (memoryWith 0xBB) → ⊥
+pub not-by-bits : IsolationStarts Marked map₀ hart₀ (memoryWith 0xAA) (memoryWith 0xBB) → ⊥
 not-by-bits S =
     omega (
       arith,
@@ -149,7 +149,7 @@ marked-below o (suc zero) s t f = same-below o (omega (arith, f))
 marked-below o (suc (suc zero)) s t f = absurd (false≢true (t .1))
 marked-below o (suc (suc (suc i))) s t f = absurd (omega (arith, s))
 
-pub starts-by-bits : Starts Marked pages hart₀ (memoryWith 0xAA) (memoryWith 0xBB)
+pub starts-by-bits : IsolationStarts Marked pages hart₀ (memoryWith 0xAA) (memoryWith 0xBB)
 starts-by-bits = record {
   user = refl;
   sv39 = refl;
@@ -185,8 +185,8 @@ pub record Computed : Type 0 where
   pub pointer : planOf (Given 0x0001B303) (withReg 3 0x5000 hart₀) (memoryWith 0xAA) map₀ ≡ Trap 13 0x5000
 
 pub computed : Computed
-unfolding refusalOf legal wordsLegal memory.refusedOf page.refusedOf page.pagesOf page.anyLarge page.riseFrom page.strictlyRise effectOf fetchedOf
-    arrivedOf landedOf executeOf decodeOf base.loadOf base.storeOf accessOf passedOf atOf doneOf placeOf reachedOf control.modeOf transformedOf
+unfolding refusalOf legal wordsLegal memory.memoryRefusedOf page.mapRefusedOf page.pagesOf page.anyLarge page.riseFrom page.strictlyRise effectOf fetchedOf
+    arrivedOf landedOf executeOf decodeOf base.decodeLoadOf base.decodeStoreOf accessOf passedOf atOf doneOf placeOf reachedOf control.effectiveModeOf transformedOf
     maskOf alignedOf pagedPlaceOf throughOf page.lookupOf settleOf judgeOf insideOf withinOf settingOf controlOf shadowOn padOn modeOf memoryWith
     front bytesOf number loadOf storeOf extendOf
 computed = record { accepted = refl; first = refl; second = refl; third = refl; outside = refl; twice = refl; pointer = refl }

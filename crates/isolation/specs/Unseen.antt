@@ -5,7 +5,7 @@
 --   frames that no valid entry with its U bit names. Up to and including the first trap the harts, counts and trap answers are the
 --   same, and every byte of the named frames is the same; the other frames keep their own bytes.
 --
--- `Claim`, at the end, is the whole: `Starts` and `Unseen` are its two sentences. Each definition stands under the words that it renders, in
+-- `IsolationClaim`, at the end, is the whole: `IsolationStarts` and `Unseen` are its two sentences. Each definition stands under the words that it renders, in
 -- quotes, in their order but for what another one needs first.
 --
 -- Below, h is the hart, m and n the two memories, map the page map. A call is one of `machine`'s, by the definition that it is proved
@@ -72,22 +72,22 @@ pub record Session : Type 0 where
   pub memory : List ℕ
 
 -- a call, and where it did not trap what the rest of the row leaves
-abbrev pub followed : (trapped : Bool) → Called → (rest : Session) → Session
-followed true c rest = record { answers = c .answer ∷ []; memory = c .memory }
-followed false c rest = record { answers = c .answer ∷ rest .answers; memory = rest .memory }
+abbrev pub callFollowed : (trapped : Bool) → Called → (rest : Session) → Session
+callFollowed true c rest = record { answers = c .answer ∷ []; memory = c .memory }
+callFollowed false c rest = record { answers = c .answer ∷ rest .answers; memory = rest .memory }
 
 -- "Take two runs ..": calls under one map, each from the hart and memory that the last one left, "up to and including the first trap". A
 -- single run is a row of one call
 unfoldable pub sessionOf : List Call → Hart → (m map : List ℕ) → Session
 sessionOf [] h m map = record { answers = []; memory = m }
 sessionOf (c ∷ cs) h m map =
-    followed (callOf c h m map .answer .trapped) (callOf c h m map)
+    callFollowed (callOf c h m map .answer .trapped) (callOf c h m map)
     (sessionOf cs (callOf c h m map .answer .hart) (callOf c h m map .memory) map)
 
 module _ (Valid : Control → (e : ℕ) → Type 0) (map : List ℕ) (h : Hart) (m n : List ℕ) where
   -- "from the same user-mode hart with Sv39 on and the same map, with memories .." (with A11: and the table frames are equal; with
   -- A6: and the logs are equal)
-  pub record Starts : Type 0 where
+  pub record IsolationStarts : Type 0 where
     pub user : MODE of h .words ≡ 0
     pub sv39 : SATP of h .words / 2 ^ 60 ≡ 8
     pub alike : Alike (Seen Valid (inForce h) map) m n
@@ -103,8 +103,8 @@ module _ (Valid : Control → (e : ℕ) → Type 0) (map : List ℕ) (h : Hart) 
 -- by a reading of "valid"
 abbrev pub ClaimBy : (Valid : Control → (e : ℕ) → Type 0) → Type 0
 ClaimBy Valid =
-    (map : List ℕ) (h : Hart) (m n : List ℕ) → Starts Valid map h m n → (calls : List Call) → Unseen Valid map h m n calls
+    (map : List ℕ) (h : Hart) (m n : List ℕ) → IsolationStarts Valid map h m n → (calls : List Call) → Unseen Valid map h m n calls
 
 -- the whole: it holds by both
-abbrev pub Claim : Type 0
-Claim = ClaimBy Taken × ClaimBy Marked
+abbrev pub IsolationClaim : Type 0
+IsolationClaim = ClaimBy Taken × ClaimBy Marked

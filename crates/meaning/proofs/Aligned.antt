@@ -32,12 +32,12 @@ use Rattle.rights.specs.declared.reach.Reached.{Reached}
 use Rattle.rights.specs.declared.reach.Reached.the-variants as reached
 use Rattle.transfer.specs.Access.{gateOf, addressOf, readOf, poppedOf, doneOf, atOf, passedOf, accessOf}
 use Rattle.effect.specs.Compute.{conditionOf}
-use Rattle.effect.specs.Csrs.{reachedOf, csrOf}
+use Rattle.effect.specs.Csrs.{csrReachedOf, csrEffectOf}
 use Rattle.meaning.specs.Instruction.{nextOf, executeOf}
 use Rattle.effect.specs.Jump.{evenOf, jalOf, jalrOf, branchOf}
 use Rattle.meaning.specs.Plan.{fetchedOf, isPad, landedOf, arrivedOf, effectOf}
 use Rattle.effect.specs.Register.{regOf}
-use Rattle.effect.specs.System.{mretOf, sretOf}
+use Rattle.effect.specs.System.{mretEffectOf, sretEffectOf}
 use Rattle.effect.specs.declared.Effect.{Effect}
 use Rattle.effect.specs.declared.Effect.the-variants as effect
 use Rattle.regime.specs.declared.Setting.{Setting}
@@ -84,19 +84,19 @@ branch-aligned : (taken : Bool) (next target : ℕ) → next % 4 ≡ 0 → Align
 unfolding branchOf
 branch-aligned taken next target n = chosen taken _ _ (λ _. jal-aligned 0 0 target) n
 
-mret-aligned : (m : Mode) (word : ℕ) → Aligned (mretOf m word)
+mret-aligned : (m : Mode) (word : ℕ) → Aligned (mretEffectOf m word)
 mret-aligned User word = tt
 mret-aligned Supervisor word = tt
 mret-aligned Machine word = tt
 
-sret-aligned : (m : Mode) (word : ℕ) → Aligned (sretOf m word)
+sret-aligned : (m : Mode) (word : ℕ) → Aligned (sretEffectOf m word)
 sret-aligned User word = tt
 sret-aligned Supervisor word = tt
 sret-aligned Machine word = tt
 
 reached-aligned : (r : Reached) (o : CsrOperation) (source : CsrSource) (rd word : ℕ) (x : List ℕ) (next : ℕ) → next % 4 ≡ 0
-    → Aligned (reachedOf r o source rd word x next)
-unfolding reachedOf
+    → Aligned (csrReachedOf r o source rd word x next)
+unfolding csrReachedOf
 reached-aligned (reached.To n) o source rd word x next a = a
 reached-aligned reached.Illegal o source rd word x next a = tt
 
@@ -127,7 +127,7 @@ module _ (x : List ℕ) (pc ssp : ℕ) (s : Setting) (m map : List ℕ) (p : pc 
   next-aligned = omega (arith, p)
 
   execute-aligned : (word : ℕ) (i : Instruction) → Aligned (executeOf i word x pc ssp s m map)
-  unfolding executeOf accessOf csrOf
+  unfolding executeOf accessOf csrEffectOf
   execute-aligned word Illegal = tt
   execute-aligned word (Lui rd v) = next-aligned
   execute-aligned word (Auipc rd v) = next-aligned

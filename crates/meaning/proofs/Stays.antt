@@ -30,14 +30,14 @@ use Rattle.rights.specs.declared.reach.Reached.{Reached}
 use Rattle.rights.specs.declared.reach.Reached.the-variants as reached
 use Rattle.transfer.specs.Access.{gateOf, addressOf, readOf, poppedOf, doneOf, atOf, passedOf, accessOf}
 use Rattle.effect.specs.Compute.{conditionOf}
-use Rattle.effect.specs.Csrs.{reachedOf, csrOf}
+use Rattle.effect.specs.Csrs.{csrReachedOf, csrEffectOf}
 use Rattle.place.specs.Place.{Within}
 use Rattle.effect.specs.Effect.{Stays}
 use Rattle.meaning.specs.Instruction.{executeOf}
 use Rattle.effect.specs.Jump.{evenOf, jalOf, jalrOf, branchOf}
 use Rattle.meaning.specs.Plan.{fetchedOf, isPad, landedOf, arrivedOf, effectOf}
 use Rattle.effect.specs.Register.{regOf}
-use Rattle.effect.specs.System.{mretOf, sretOf}
+use Rattle.effect.specs.System.{mretEffectOf, sretEffectOf}
 use Rattle.effect.specs.declared.Effect.{Effect}
 use Rattle.regime.specs.declared.Setting.{Setting}
 use Rattle.meaning.specs.declared.Source.{Source}
@@ -63,19 +63,19 @@ branch-stays : (taken : Bool) (next target len : ℕ) → Stays (branchOf taken 
 unfolding branchOf
 branch-stays taken next target len = chosen taken _ _ len (jal-stays 0 0 target len) (omega arith)
 
-mret-stays : (m : Mode) (word len : ℕ) → Stays (mretOf m word) len
+mret-stays : (m : Mode) (word len : ℕ) → Stays (mretEffectOf m word) len
 mret-stays User word len = omega arith
 mret-stays Supervisor word len = omega arith
 mret-stays Machine word len = omega arith
 
-sret-stays : (m : Mode) (word len : ℕ) → Stays (sretOf m word) len
+sret-stays : (m : Mode) (word len : ℕ) → Stays (sretEffectOf m word) len
 sret-stays User word len = omega arith
 sret-stays Supervisor word len = omega arith
 sret-stays Machine word len = omega arith
 
 reached-stays : (r : Reached) (o : CsrOperation) (source : CsrSource) (rd word : ℕ) (x : List ℕ) (next len : ℕ)
-    → Stays (reachedOf r o source rd word x next) len
-unfolding reachedOf
+    → Stays (csrReachedOf r o source rd word x next) len
+unfolding csrReachedOf
 reached-stays (reached.To n) o source rd word x next len = omega arith
 reached-stays reached.Illegal o source rd word x next len = omega arith
 
@@ -105,7 +105,7 @@ passed-stays gate.Illegal k word rd a b off ssp next s m map = omega arith
 
 module _ (x : List ℕ) (pc ssp : ℕ) (s : Setting) (m map : List ℕ) where
   execute-stays : (word : ℕ) (i : Instruction) → Stays (executeOf i word x pc ssp s m map) (length m)
-  unfolding executeOf accessOf csrOf
+  unfolding executeOf accessOf csrEffectOf
   execute-stays word Illegal = omega arith
   execute-stays word (Lui rd v) = omega arith
   execute-stays word (Auipc rd v) = omega arith

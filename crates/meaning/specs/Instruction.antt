@@ -8,13 +8,13 @@ use Rattle.word.specs.Sum.{sumOf}
 use Rattle.isa.specs.declared.Instruction.{Instruction}
 use Rattle.isa.specs.declared.Instruction.the-variants.{Illegal, Lui, Auipc, Jal, Jalr, Branch, Memory, OpImm, OpImm32, Op, Op32, Fence, Ecall}
 use Rattle.isa.specs.declared.Instruction.the-variants.{Ebreak, Sret, Mret, Csr, ReadSsp, MopR, MopRr}
-use Rattle.rights.specs.Exception.{illegalOf, breakpointOf, callOf}
+use Rattle.rights.specs.Exception.{illegalOf, breakpointOf, ecallOf}
 use Rattle.transfer.specs.Access.{accessOf}
 use Rattle.effect.specs.Compute.{operationOf, wordOperationOf, conditionOf}
-use Rattle.effect.specs.Csrs.{csrOf}
+use Rattle.effect.specs.Csrs.{csrEffectOf}
 use Rattle.effect.specs.Jump.{jalOf, jalrOf, branchOf}
 use Rattle.effect.specs.Register.{regOf}
-use Rattle.effect.specs.System.{trapWith, mretOf, sretOf}
+use Rattle.effect.specs.System.{trapWith, mretEffectOf, sretEffectOf}
 use Rattle.regime.specs.declared.Setting.{Setting}
 use Rattle.effect.specs.declared.Effect.{Effect}
 use Rattle.effect.specs.declared.Effect.the-variants.{Write}
@@ -24,8 +24,8 @@ abbrev pub nextOf : (pc : ℕ) → ℕ
 nextOf pc = sumOf pc 4
 
 -- a read of ssp, by the active shadow enable; off, the Zimop words write 0
-abbrev pub shownOf : (on : Bool) → (ssp : ℕ) → ℕ
-shownOf on ssp = pick on ssp 0
+abbrev pub sspShownOf : (on : Bool) → (ssp : ℕ) → ℕ
+sspShownOf on ssp = pick on ssp 0
 
 unfoldable pub executeOf : Instruction → (word : ℕ) → (x : List ℕ) → (pc ssp : ℕ) → Setting → (m map : List ℕ) → Effect
 executeOf Illegal word x pc ssp s m map = trapWith (illegalOf word)
@@ -42,12 +42,12 @@ executeOf (OpImm32 o rd rs1 v) word x pc ssp s m map = Write rd (wordOperationOf
 executeOf (Op o rd rs1 rs2) word x pc ssp s m map = Write rd (operationOf o (regOf x rs1) (regOf x rs2)) (nextOf pc)
 executeOf (Op32 o rd rs1 rs2) word x pc ssp s m map = Write rd (wordOperationOf o (regOf x rs1) (regOf x rs2)) (nextOf pc)
 executeOf (Fence fm pred succ rs1 rd) word x pc ssp s m map = Write 0 0 (nextOf pc)
-executeOf Ecall word x pc ssp s m map = trapWith (callOf (s .control .mode))
+executeOf Ecall word x pc ssp s m map = trapWith (ecallOf (s .control .mode))
 executeOf Ebreak word x pc ssp s m map = trapWith (breakpointOf pc)
-executeOf Sret word x pc ssp s m map = sretOf (s .control .mode) word
-executeOf Mret word x pc ssp s m map = mretOf (s .control .mode) word
+executeOf Sret word x pc ssp s m map = sretEffectOf (s .control .mode) word
+executeOf Mret word x pc ssp s m map = mretEffectOf (s .control .mode) word
 executeOf (Csr o source rd address) word x pc ssp s m map =
-    csrOf o source rd address word x (nextOf pc) (s .control .mode) (s .permitted)
-executeOf (ReadSsp rd) word x pc ssp s m map = Write rd (shownOf (s .shadow) ssp) (nextOf pc)
+    csrEffectOf o source rd address word x (nextOf pc) (s .control .mode) (s .permitted)
+executeOf (ReadSsp rd) word x pc ssp s m map = Write rd (sspShownOf (s .shadow) ssp) (nextOf pc)
 executeOf (MopR n rd rs1) word x pc ssp s m map = Write rd 0 (nextOf pc)
 executeOf (MopRr n rd rs1 rs2) word x pc ssp s m map = Write rd 0 (nextOf pc)

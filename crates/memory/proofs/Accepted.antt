@@ -7,10 +7,10 @@ use lib.Dec.{eqb, ltb}
 use borrow.Author.Tests.{eqb-true, eqb-false, ltb-false, not-false}
 use native.Mathlib.Omega.{arith}
 use Rattle.word.proofs.Bools.{neither}
-use Rattle.memory.specs.Refusal.{refusedOf}
+use Rattle.memory.specs.Refusal.{memoryRefusedOf}
 
-pub accepted : (len : ℕ) → refusedOf len ≡ false → (0 < len) × (len % 4096 ≡ 0) × (len ≤ 1048576)
-unfolding refusedOf
+pub accepted : (len : ℕ) → memoryRefusedOf len ≡ false → (0 < len) × (len % 4096 ≡ 0) × (len ≤ 1048576)
+unfolding memoryRefusedOf
 accepted len ok =
     let q = neither (eqb len 0) _ ok in
     let r = neither (not (eqb (len % 4096) 0)) (ltb 1048576 len) (q .1) in

@@ -10,7 +10,7 @@ ghost use lib.ListN.{length};
 ghost use Rattle.isa.specs.Size.{sizeOf};
 ghost use Rattle.memory.specs.Bytes.{loadOf, storeOf};
 ghost use Rattle.memory.specs.Extend.{extendOf, signExtended};
-ghost use Rattle.memory.specs.Refusal.{refusedOf};
+ghost use Rattle.memory.specs.Refusal.{memoryRefusedOf};
 
 // The bytes of an access, by its number of bytes.
 mod bytes;
@@ -73,7 +73,7 @@ pub fn store(mem: &mut [u8], at: usize, w: Width, v: u64)
 
 // Refusal 2, of memory of this length.
 pub fn refused(len: u64) -> bool
-    ensures { λ r. ⌜ r ≡ refusedOf len ⌝ }
+    ensures { λ r. ⌜ r ≡ memoryRefusedOf len ⌝ }
 {
     if len == 0 {
         return true;

@@ -32,7 +32,7 @@ ghost use Rattle.word.specs.Immediate.{immI, immS};
 ghost use Rattle.isa.specs.declared.Access.the-variants as access;
 ghost use Rattle.isa.specs.declared.Instruction.the-variants.{Memory};
 ghost use Rattle.isa.specs.declared.Width.the-variants.{Double};
-ghost use Rattle.base.specs.Base.{loadOf, storeOf};
+ghost use Rattle.base.specs.Base.{decodeLoadOf, decodeStoreOf};
 ghost use Rattle.isa.specs.declared.Kind.the-variants as kind;
 ghost use Rattle.address.specs.Control.{flatOf};
 ghost use Rattle.address.specs.Stack.{pushOf};
@@ -85,7 +85,7 @@ fn flat_load(n: Width, sign: bool, a: u64, mem: &[u8]) -> Value
 // The rows of LOAD. Each has its width written out: so the compiler asks once what a word's width is, and not at each use (docs/SPEED.md).
 fn flat_row(f: Fields, a: u64, mem: &[u8]) -> Value
     requires { ⌜ length (now mem) ≤ 2 ^ 20 ⌝ }
-    ensures { λ r. ⌜ ((off : ℕ) → Loads (r .known) (loadOf f off) f off a (now (mem .entry)) (r .value)) ⌝ }
+    ensures { λ r. ⌜ ((off : ℕ) → Loads (r .known) (decodeLoadOf f off) f off a (now (mem .entry)) (r .value)) ⌝ }
 {
     let funct3 = f.funct3;
     match funct3 {
@@ -104,7 +104,7 @@ fn flat_row(f: Fields, a: u64, mem: &[u8]) -> Value
 fn load_flat(w: u32, x: &mut [u64; 32], pc: u64, mem: &[u8]) -> Tried
     requires { ⌜ length (now mem) ≤ 2 ^ 20 ⌝ }
     ensures { λ r. ⌜ ((ssp : ℕ) (s : setting.Setting) (rest map : List ℕ) → flatOf (s .control) ≡ true
-        → Does (r .done) (executeOf (loadOf (fieldsOf w) (immI w)) w (now (x .entry)) pc ssp s (now (mem .entry)) map) (now (x .entry)) rest
+        → Does (r .done) (executeOf (decodeLoadOf (fieldsOf w) (immI w)) w (now (x .entry)) pc ssp s (now (mem .entry)) map) (now (x .entry)) rest
         (now (mem .entry)) (r .pc) (now (x .exit)) rest (now (mem .entry))) ⌝ }
 {
     let f = field::split(w);
@@ -117,7 +117,7 @@ fn load_flat(w: u32, x: &mut [u64; 32], pc: u64, mem: &[u8]) -> Tried
 
 pub fn load(w: u32, x: &mut [u64; 32], pc: u64, k: Context, mem: &[u8], map: &[u64]) -> Tried
     requires { ⌜ (length (now mem) ≤ 2 ^ 20) × (k .flat ≡ flatOf (k .setting .control)) ⌝ }
-    ensures { λ r. ⌜ ((ssp : ℕ) (rest : List ℕ) → Does (r .done) (executeOf (loadOf (fieldsOf w) (immI w)) w (now (x .entry)) pc ssp (k .setting)
+    ensures { λ r. ⌜ ((ssp : ℕ) (rest : List ℕ) → Does (r .done) (executeOf (decodeLoadOf (fieldsOf w) (immI w)) w (now (x .entry)) pc ssp (k .setting)
         (now (mem .entry)) (now (map .entry))) (now (x .entry)) rest (now (mem .entry)) (r .pc) (now (x .exit)) rest (now (mem .entry))) ⌝ }
 {
     if k.flat {
@@ -166,7 +166,7 @@ fn store_at(
 
 pub fn store(w: u32, x: &[u64; 32], pc: u64, k: Context, mem: &mut [u8], map: &[u64]) -> Tried
     requires { ⌜ (length (now mem) ≤ 2 ^ 20) × (k .flat ≡ flatOf (k .setting .control)) ⌝ }
-    ensures { λ r. ⌜ ((ssp : ℕ) (rest : List ℕ) → Does (r .done) (executeOf (storeOf (fieldsOf w) (immS w)) w (now (x .entry)) pc ssp (k .setting)
+    ensures { λ r. ⌜ ((ssp : ℕ) (rest : List ℕ) → Does (r .done) (executeOf (decodeStoreOf (fieldsOf w) (immS w)) w (now (x .entry)) pc ssp (k .setting)
         (now (mem .entry)) (now (map .entry))) (now (x .entry)) rest (now (mem .entry)) (r .pc) (now (x .entry)) rest (now (mem .exit))) ⌝ }
 {
     let flat = k.flat;

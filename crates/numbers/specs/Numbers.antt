@@ -21,9 +21,9 @@ abbrev pub sourceOf : CsrSource → ℕ
 sourceOf (Register r) = r
 sourceOf (Immediate n) = n
 
-abbrev pub flagOf : Bool → ℕ
-flagOf true = 1
-flagOf false = 0
+abbrev pub orderingBit : Bool → ℕ
+orderingBit true = 1
+orderingBit false = 0
 
 -- a swap's aq and rl are the two that are left
 abbrev pub accessNumbers : Access → ℕ → ℕ → ℕ → ℕ → Eight
@@ -31,7 +31,7 @@ accessNumbers (Load w signed) d a b o = eightOf 6 (loadKey w signed) d a b o 0 0
 accessNumbers (Store w) d a b o = eightOf 7 (widthKey w) d a b o 0 0
 accessNumbers Push d a b o = eightOf 19 0 d a b o 0 0
 accessNumbers Pop d a b o = eightOf 20 0 d a b o 0 0
-accessNumbers (Swap w aq rl) d a b o = eightOf 21 (swapKey w) d a b o (flagOf aq) (flagOf rl)
+accessNumbers (Swap w aq rl) d a b o = eightOf 21 (swapKey w) d a b o (orderingBit aq) (orderingBit rl)
 
 -- FENCE's operation is fm, and pred and succ are left; a CSR instruction's CSR is left; the operation of MOP.R.n and MOP.RR.n is n
 abbrev pub numbersOf : Instruction → Eight

@@ -4,7 +4,7 @@ use isa::Access;
 use isa::CsrSource;
 use isa::Instruction;
 ghost use mathlib.Core.Path.{_≡_};
-ghost use Rattle.numbers.specs.Numbers.{eightOf, sourceOf, flagOf, accessNumbers, numbersOf};
+ghost use Rattle.numbers.specs.Numbers.{eightOf, sourceOf, orderingBit, accessNumbers, numbersOf};
 
 // The numbers of operations.
 mod key;
@@ -54,7 +54,7 @@ fn source(s: CsrSource) -> u8
 }
 
 fn flag(b: bool) -> u64
-    ensures { λ r. ⌜ r ≡ flagOf b ⌝ }
+    ensures { λ r. ⌜ r ≡ orderingBit b ⌝ }
 {
     if b { 1 } else { 0 }
 }

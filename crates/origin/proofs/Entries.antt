@@ -12,7 +12,7 @@ use Rattle.leaf.specs.Leaf.{leafOf}
 use Rattle.judge.proofs.Grants.{Held, held}
 use Rattle.page.proofs.Entries.{lookup-stands}
 use Rattle.isa.specs.declared.Kind.{Kind}
-use Rattle.address.specs.Control.{modeOf, pagedOf, regimeOf}
+use Rattle.address.specs.Control.{effectiveModeOf, pagedOf, regimeOf}
 use Rattle.address.specs.Mask.{transformedOf}
 use Rattle.address.specs.declared.control.Control.{Control}
 use Rattle.place.proofs.Reach.{place-paged, place-in-page}
@@ -27,7 +27,7 @@ pub record Behind (c : Control) (k : Kind) (w : Width) (t : ℕ) (map : List ℕ
   pub stands : Entry map entry
   pub number : getD map (2 * entry) 0 ≡ pageNumber t
   pub canonical : canonicalOf t ≡ true
-  pub held : Held (regimeOf c (modeOf c k)) k (leafOf (leafAt map entry))
+  pub held : Held (regimeOf c (effectiveModeOf c k)) k (leafOf (leafAt map entry))
   pub valid : ValidLeaf c (leafAt map entry)
   pub frame : q .0 ≡ physicalOf (leafAt map entry) t
   pub within : Within len w (q .0)
@@ -37,25 +37,25 @@ in-frame : (q n i f t : ℕ) → base ≤ q → q ≡ f * 4096 + t % 4096 → t 
 in-frame q n i f t b e l u = omega arith
 
 module _ (c : Control) (k : Kind) (w : Width) (a : ℕ) (map : List ℕ) (len : ℕ) (q : Physical)
-    (at : placeOf c k w a map len ≡ At q) (paged : pagedOf (modeOf c k) (c .sv39) ≡ true) where
-  pub behind : Behind c k w (transformedOf c (modeOf c k) k a) map len q
+    (at : placeOf c k w a map len ≡ At q) (paged : pagedOf (effectiveModeOf c k) (c .sv39) ≡ true) where
+  pub behind : Behind c k w (transformedOf c (effectiveModeOf c k) k a) map len q
   behind =
       let P = place-paged c k w a map len q at paged in
       let S = lookup-stands map _ (P .leaf) (P .entry) in
-      let H = held (regimeOf c (modeOf c k)) (leafOf (P .leaf)) k (P .granted) in
+      let H = held (regimeOf c (effectiveModeOf c k)) (leafOf (P .leaf)) k (P .granted) in
       record {
         entry = S .place;
         stands = S .inside;
         number = S .number;
         canonical = P .canonical;
-        held = subst (λ (e : ℕ). Held (regimeOf c (modeOf c k)) k (leafOf e)) (sym (S .word)) H;
+        held = subst (λ (e : ℕ). Held (regimeOf c (effectiveModeOf c k)) k (leafOf e)) (sym (S .word)) H;
         valid = subst (ValidLeaf c) (sym (S .word)) (H .valid);
-        frame = subst (λ (e : ℕ). q .0 ≡ physicalOf e (transformedOf c (modeOf c k) k a)) (sym (S .word)) (P .frame);
+        frame = subst (λ (e : ℕ). q .0 ≡ physicalOf e (transformedOf c (effectiveModeOf c k) k a)) (sym (S .word)) (P .frame);
         within = P .within;
       }
 
   -- every byte of the access lies in the entry's frame
   pub behind-names : (i : ℕ) → i < sizeOf w → frameOf (leafAt map (behind .entry)) ≡ (base + (q .0 - base + i)) / 4096
   behind-names i l =
-      in-frame (q .0) (sizeOf w) i (frameOf (leafAt map (behind .entry))) (transformedOf c (modeOf c k) k a) (behind .within .0)
+      in-frame (q .0) (sizeOf w) i (frameOf (leafAt map (behind .entry))) (transformedOf c (effectiveModeOf c k) k a) (behind .within .0)
       (behind .frame) (place-in-page c k w a map len q at .0) l

@@ -39,12 +39,12 @@ use Rattle.rights.specs.declared.reach.Reached.{Reached}
 use Rattle.rights.specs.declared.reach.Reached.the-variants as reached
 use Rattle.transfer.specs.Access.{gateOf, addressOf, readOf, poppedOf, doneOf, atOf, passedOf, accessOf}
 use Rattle.effect.specs.Compute.{conditionOf}
-use Rattle.effect.specs.Csrs.{reachedOf, csrOf, writesOf, fieldOf}
+use Rattle.effect.specs.Csrs.{csrReachedOf, csrEffectOf, writesOf, fieldOf}
 use Rattle.meaning.specs.Instruction.{nextOf, executeOf}
 use Rattle.effect.specs.Jump.{evenOf, jalOf, jalrOf, branchOf}
 use Rattle.meaning.specs.Plan.{fetchedOf, isPad, landedOf, arrivedOf, effectOf}
 use Rattle.effect.specs.Register.{regOf}
-use Rattle.effect.specs.System.{mretOf, sretOf}
+use Rattle.effect.specs.System.{mretEffectOf, sretEffectOf}
 use Rattle.effect.specs.declared.Effect.{Effect}
 use Rattle.effect.specs.declared.Effect.the-variants.{Write, Jump, Pad, Store, Push, Pop, Swap, Trap}
 use Rattle.effect.specs.declared.Effect.the-variants as effect
@@ -124,12 +124,12 @@ module _ (source : Source) (h : Hart) (m map : List ℕ) where
   unfolding branchOf
   branch-origin taken next target = chosen taken _ _ (jal-origin 0 0 target) tt
 
-  mret-origin : (o : Mode) (word : ℕ) → inForce h .mode ≡ o → Origin (mretOf o word)
+  mret-origin : (o : Mode) (word : ℕ) → inForce h .mode ≡ o → Origin (mretEffectOf o word)
   mret-origin User word e = tt
   mret-origin Supervisor word e = tt
   mret-origin Machine word e = λ u. let z : Machine ≡ User = sym e ∙ u in let y : _≡_ {A = ℕ} 0 1 = cc in omega arith
 
-  sret-origin : (o : Mode) (word : ℕ) → inForce h .mode ≡ o → Origin (sretOf o word)
+  sret-origin : (o : Mode) (word : ℕ) → inForce h .mode ≡ o → Origin (sretEffectOf o word)
   sret-origin User word e = tt
   sret-origin Supervisor word e = λ u. let z : Supervisor ≡ User = sym e ∙ u in let y : _≡_ {A = ℕ} 0 1 = cc in omega arith
   sret-origin Machine word e = λ u. let z : Machine ≡ User = sym e ∙ u in let y : _≡_ {A = ℕ} 0 1 = cc in omega arith
@@ -192,8 +192,8 @@ module _ (source : Source) (h : Hart) (m map : List ℕ) where
       passed-origin k gate.Illegal reads opened = tt
 
     reached-origin : (r : Reached) (address : ℕ) (o : CsrOperation) (from : CsrSource) (rd : ℕ) (next : ℕ) → decodeOf word ≡ Csr o from rd address
-        → reachOf (inForce h .mode) (s .permitted) address ≡ r → Origin (reachedOf r o from rd word (h .x) next)
-    unfolding reachedOf
+        → reachOf (inForce h .mode) (s .permitted) address ≡ r → Origin (csrReachedOf r o from rd word (h .x) next)
+    unfolding csrReachedOf
     reached-origin (reached.To n) address o from rd next d e = (
       (λ u. user-ssp (s .permitted) address n (sym (ap (λ (o : Mode). reachOf o (s .permitted) address) u) ∙ e)),
       record { word = word; from = from; address = address; arrives = arrives; reads = d; names = e; wrote = refl },
@@ -201,7 +201,7 @@ module _ (source : Source) (h : Hart) (m map : List ℕ) where
     reached-origin reached.Illegal address o from rd next d e = tt
 
     execute-origin : (i : Instruction) → decodeOf word ≡ i → Origin (executeOf i word (h .x) (PC of h .words) (SSP of h .words) s m map)
-    unfolding executeOf accessOf csrOf
+    unfolding executeOf accessOf csrEffectOf
     execute-origin Illegal e = tt
     execute-origin (Lui rd v) e = tt
     execute-origin (Auipc rd v) e = tt

@@ -42,8 +42,8 @@ unfolding settingOf controlOf
 sv39-on h e = eq-eqb (SATP of h .words / 2 ^ 60) 8 e
 
 -- in user mode MPRV changes no access
-pub user-mode : (c : Control) (k : Kind) → c .mode ≡ User → control.modeOf c k ≡ User
-unfolding control.modeOf
+pub user-mode : (c : Control) (k : Kind) → c .mode ≡ User → control.effectiveModeOf c k ≡ User
+unfolding control.effectiveModeOf
 user-mode c Fetch u = u
 user-mode c Load u = rw u
 user-mode c Store u = rw u
@@ -52,7 +52,7 @@ user-mode c Pop u = u
 user-mode c Swap u = rw u
 
 -- so under Sv39 every access goes by the map
-pub user-paged : (c : Control) (k : Kind) → c .mode ≡ User → c .sv39 ≡ true → pagedOf (control.modeOf c k) (c .sv39) ≡ true
+pub user-paged : (c : Control) (k : Kind) → c .mode ≡ User → c .sv39 ≡ true → pagedOf (control.effectiveModeOf c k) (c .sv39) ≡ true
 user-paged c k u s = rw (user-mode c k u, s)
 
 -- pc, elp and ssp, which are not the mode and no other CSR

@@ -13,7 +13,7 @@ use borrow.Author.Tests.{eq-eqb, ne-eqb, le-leb, lt-leb, lt-ltb, le-ltb, eqb-tru
 use Rattle.word.proofs.Bools.{neither}
 use Rattle.word.proofs.Either.{either}
 use Rattle.word.specs.Choice.{pick}
-use Rattle.page.specs.Map.{lookupOf, pagesOf, anyLarge, riseFrom, strictlyRise, refusedOf}
+use Rattle.page.specs.Map.{lookupOf, pagesOf, anyLarge, riseFrom, strictlyRise, mapRefusedOf}
 use Rattle.page.specs.declared.map.Found.the-variants.{Leaf, Absent}
 
 -- the next two words
@@ -108,16 +108,16 @@ wrong-all (k ∷ rest) =
 unfoldable pub wrongAt : ℕ → List ℕ → Bool
 wrongAt low words = wrong low (pagesOf words)
 
-pub refused-odd : (map : List ℕ) → (length map % 2 ≡ 0 → ⊥) → refusedOf map ≡ true
-unfolding refusedOf
+pub refused-odd : (map : List ℕ) → (length map % 2 ≡ 0 → ⊥) → mapRefusedOf map ≡ true
+unfolding mapRefusedOf
 refused-odd map h = rw (eq-eqb (length map % 2) 1 (omega arith))
 
-pub refused-long : (map : List ℕ) → length map % 2 ≡ 0 → 128 < length map → refusedOf map ≡ true
-unfolding refusedOf
+pub refused-long : (map : List ℕ) → length map % 2 ≡ 0 → 128 < length map → mapRefusedOf map ≡ true
+unfolding mapRefusedOf
 refused-long map h l = rw (ne-eqb (length map % 2) 1 (λ e. omega arith), lt-ltb 128 (length map) l)
 
-pub refused-start : (map : List ℕ) → length map % 2 ≡ 0 → length map ≤ 128 → refusedOf map ≡ wrongAt 0 map
-unfolding refusedOf wrongAt
+pub refused-start : (map : List ℕ) → length map % 2 ≡ 0 → length map ≤ 128 → mapRefusedOf map ≡ wrongAt 0 map
+unfolding mapRefusedOf wrongAt
 refused-start map h l =
     rw (ne-eqb (length map % 2) 1 (λ e. omega arith), le-ltb 128 (length map) l, wrong-all (pagesOf map))
 
@@ -144,8 +144,8 @@ module _ (map : List ℕ) (i low : ℕ) where
   wrong-next h e g = rw (two map i h, le-ltb (getD map i 0) low e, lt-leb (2 ^ 27) (getD map i 0) g)
 
 -- a map of no entry is accepted
-pub empty-accepted : refusedOf [] ≡ false
-unfolding refusedOf anyLarge strictlyRise pagesOf
+pub empty-accepted : mapRefusedOf [] ≡ false
+unfolding mapRefusedOf anyLarge strictlyRise pagesOf
 empty-accepted = refl
 
 -- an accepted map
@@ -191,18 +191,18 @@ finds low (k ∷ e ∷ rest) h (suc i) p =
     let b = bounded (k + 1) rest (q .2) i (omega arith) in
     rw (double i, ne-eqb k (getD rest (2 * i) 0) (λ s. omega arith)) (finds (k + 1) rest (q .2) i (omega arith))
 
-module _ (map : List ℕ) (ok : refusedOf map ≡ false) where
+module _ (map : List ℕ) (ok : mapRefusedOf map ≡ false) where
   -- it has a leaf for each page number, and at most 64 entries
   pub map-even : length map % 2 ≡ 0
-  unfolding refusedOf
+  unfolding mapRefusedOf
   map-even = omega (arith, eqb-false (length map % 2) 1 (neither (eqb (length map % 2) 1) _ ok .0))
 
   pub map-short : length map ≤ 128
-  unfolding refusedOf
+  unfolding mapRefusedOf
   map-short = ltb-false 128 (length map) (neither (ltb 128 (length map)) _ (neither (eqb (length map % 2) 1) _ ok .1) .0)
 
   right : wrongAt 0 map ≡ false
-  unfolding refusedOf wrongAt
+  unfolding mapRefusedOf wrongAt
   right =
       let q = neither (eqb (length map % 2) 1) _ ok in
       let r = neither (ltb 128 (length map)) _ (q .1) in

@@ -35,7 +35,7 @@ strictlyRise [] = true
 strictlyRise (k ∷ rest) = riseFrom k rest
 
 -- refusal 3: an odd word count, over 128 words, a page number of 2 ^ 27 or more, or numbers that don't strictly rise
-unfoldable pub refusedOf : List ℕ → Bool
-refusedOf map =
+unfoldable pub mapRefusedOf : List ℕ → Bool
+mapRefusedOf map =
     eqb (length map % 2) 1
     || (ltb 128 (length map) || (anyLarge (pagesOf map) || not (strictlyRise (pagesOf map))))

@@ -1,6 +1,6 @@
 // The page map: two words a page, its number and then its leaf. Lookup of a number, and refusal 3.
 ghost use mathlib.Core.Path.{_≡_};
-ghost use Rattle.page.specs.Map.{lookupOf, refusedOf};
+ghost use Rattle.page.specs.Map.{lookupOf, mapRefusedOf};
 
 pub enum Found {
     Leaf(u64),
@@ -33,7 +33,7 @@ pub fn lookup(map: &[u64], page: u64) -> Found
 
 // Refusal 3. `low` is the least number that the next page may have.
 pub fn refused(map: &[u64]) -> bool
-    ensures { λ r. ⌜ r ≡ refusedOf (now (map .entry)) ⌝ }
+    ensures { λ r. ⌜ r ≡ mapRefusedOf (now (map .entry)) ⌝ }
 {
     if map.len() % 2 != 0 {
         return true;

@@ -16,7 +16,7 @@ use Rattle.isa.specs.declared.Width.{Width}
 use Rattle.isa.specs.declared.Width.the-variants.{Byte, Half, Word, Double}
 use Rattle.address.specs.Align.{alignedOf}
 use Rattle.address.specs.Cause.{misalignedOf}
-use Rattle.address.specs.Control.{modeOf, pagedOf, regimeOf}
+use Rattle.address.specs.Control.{effectiveModeOf, pagedOf, regimeOf}
 use Rattle.address.specs.Mask.{transformedOf}
 use Rattle.address.specs.declared.control.Control.{Control}
 use Rattle.place.specs.Place.{base, pagedPlaceOf, plainPlaceOf, reachedOf, placeOf}
@@ -52,10 +52,10 @@ aligned-there Double t d z e = eq-eqb ((t + d) % 8) 0 (omega arith)
 module _ (c : Control) (k : Kind) (low : ℕ) (map : List ℕ) (len : ℕ) (q : Physical)
     (at : placeOf c k Double low map len ≡ At q) (start : low % 4096 ≡ 0) (frame : q .0 - base + 4096 ≤ len) where
   abbrev m : Mode
-  m = modeOf c k
+  m = effectiveModeOf c k
 
   abbrev t : ℕ
-  t = transformedOf c (modeOf c k) k low
+  t = transformedOf c (effectiveModeOf c k) k low
 
   abbrev paged : Width → ℕ → Place
   paged w p = pagedPlaceOf (regimeOf c m) k w p map len

@@ -18,7 +18,7 @@ use Rattle.isa.specs.declared.Mode.{Mode}
 use Rattle.address.proofs.Masking.{mask-none}
 use Rattle.address.specs.Align.{alignedOf}
 use Rattle.address.specs.Cause.{misalignedOf}
-use Rattle.address.specs.Control.{modeOf, pmmOf, pagedOf, unmaskedOf, bareOf, flatOf}
+use Rattle.address.specs.Control.{effectiveModeOf, pmmOf, pagedOf, unmaskedOf, bareOf, flatOf}
 use Rattle.address.specs.Mask.{pmlenOf, transformedOf}
 use Rattle.address.specs.declared.control.Control.{Control}
 use Rattle.place.specs.Place.{base, Within, insideOf, plainPlaceOf, reachedOf, placeOf, flatPlaceOf}
@@ -50,8 +50,8 @@ off true e = cc
 off false e = refl
 
 -- the one effective mode of loads and stores
-data-mode : (c : Control) (k : Kind) → isShadow k ≡ false → isFetch k ≡ false → modeOf c k ≡ modeOf c Load
-unfolding modeOf
+data-mode : (c : Control) (k : Kind) → isShadow k ≡ false → isFetch k ≡ false → effectiveModeOf c k ≡ effectiveModeOf c Load
+unfolding effectiveModeOf
 data-mode c Fetch s f = cc
 data-mode c Load s f = refl
 data-mode c Store s f = refl
@@ -88,14 +88,14 @@ plainly-reached c m k w a map len s p = rw (p, s)
 pub fetch-flat : (c : Control) (a : ℕ) (map : List ℕ) (len : ℕ) → bareOf c ≡ true
     → placeOf c Fetch Word a map len ≡ flatPlaceOf Fetch Word a len
 unfolding placeOf transformedOf bareOf
-fetch-flat c a map len e = plainly-reached c (modeOf c Fetch) Fetch Word a map len refl (off _ e)
+fetch-flat c a map len e = plainly-reached c (effectiveModeOf c Fetch) Fetch Word a map len refl (off _ e)
 
 pub data-flat : (c : Control) (k : Kind) (w : Width) (a : ℕ) (map : List ℕ) (len : ℕ) → flatOf c ≡ true
     → isShadow k ≡ false → isFetch k ≡ false → a < 2 ^ 64
     → placeOf c k w a map len ≡ flatPlaceOf k w a len
 unfolding placeOf flatOf
 data-flat c k w a map len e s f h =
-    let m = modeOf c Load in
+    let m = effectiveModeOf c Load in
     let b = both (not (pagedOf m (c .sv39))) (unmaskedOf c Load || eqb (pmmOf m (c .upmm) (c .spmm) (c .mpmm)) 0) e in
     rw (data-mode c k s f, unmasked c m k a h (unmaskedOf c Load) (data-unmasked c k s f) (b .1))
     (plainly-reached c m k w a map len s (off _ (b .0)))

@@ -28,7 +28,7 @@ use Rattle.page.specs.declared.map.Found.the-variants.{Leaf, Absent}
 use Rattle.page.specs.declared.map.Found.{Found}
 use Rattle.address.specs.Align.{alignedOf}
 use Rattle.address.specs.Cause.{misalignedOf, accessFaultOf, pageFaultOf}
-use Rattle.address.specs.Control.{modeOf, pagedOf, regimeOf}
+use Rattle.address.specs.Control.{effectiveModeOf, pagedOf, regimeOf}
 use Rattle.address.specs.Mask.{transformedOf}
 use Rattle.address.specs.declared.control.Control.{Control}
 use Rattle.place.specs.Place.{base, withinOf, Within, insideOf, canonicalOf, pageNumber, physicalOf, settleOf, throughOf, pagedPlaceOf}
@@ -111,10 +111,10 @@ in-page Double t h = omega arith
 -- a place that was given: what follows for the effective mode m and the transformed address t
 module _ (c : Control) (k : Kind) (w : Width) (a : ℕ) (map : List ℕ) (len : ℕ) (q : Physical) (at : placeOf c k w a map len ≡ At q) where
   abbrev m : Mode
-  m = modeOf c k
+  m = effectiveModeOf c k
 
   abbrev t : ℕ
-  t = transformedOf c (modeOf c k) k a
+  t = transformedOf c (effectiveModeOf c k) k a
 
   abbrev paged : Place
   paged = pagedPlaceOf (regimeOf c m) k w t map len
@@ -199,12 +199,12 @@ module _ (c : Control) (k : Kind) (w : Width) (a : ℕ) (map : List ℕ) (len : 
 -- how much of the map counts
 module _ (c : Control) (k : Kind) (w : Width) (a : ℕ) (map other : List ℕ) (len : ℕ) where
   -- under Sv39 the one leaf
-  pub one-leaf : lookupOf map (pageNumber (transformedOf c (modeOf c k) k a)) ≡ lookupOf other (pageNumber (transformedOf c (modeOf c k) k a))
+  pub one-leaf : lookupOf map (pageNumber (transformedOf c (effectiveModeOf c k) k a)) ≡ lookupOf other (pageNumber (transformedOf c (effectiveModeOf c k) k a))
       → placeOf c k w a map len ≡ placeOf c k w a other len
   unfolding placeOf reachedOf pagedPlaceOf
   one-leaf e = rw e
 
   -- in M or Bare nothing
-  pub no-leaf : pagedOf (modeOf c k) (c .sv39) ≡ false → placeOf c k w a map len ≡ placeOf c k w a other len
+  pub no-leaf : pagedOf (effectiveModeOf c k) (c .sv39) ≡ false → placeOf c k w a map len ≡ placeOf c k w a other len
   unfolding placeOf reachedOf
   no-leaf p = rw p

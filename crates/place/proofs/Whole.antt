@@ -6,12 +6,12 @@ use mathlib.Core.Path.{_≡_}
 use Prim.Native.Nat.{ℕ}
 use Rattle.isa.specs.declared.Width.{Width}
 use Rattle.isa.specs.declared.Kind.{Kind}
-use Rattle.address.specs.Control.{modeOf, unmaskedOf}
+use Rattle.address.specs.Control.{effectiveModeOf, unmaskedOf}
 use Rattle.address.specs.Mask.{transformedOf}
 use Rattle.address.specs.declared.control.Control.{Control}
 use Rattle.place.specs.Place.{reachedOf, placeOf}
 
 pub whole-address : (c : Control) (k : Kind) (w : Width) (a : ℕ) (map : List ℕ) (len : ℕ) → unmaskedOf c k ≡ true
-    → placeOf c k w a map len ≡ reachedOf c (modeOf c k) k w a map len
+    → placeOf c k w a map len ≡ reachedOf c (effectiveModeOf c k) k w a map len
 unfolding placeOf transformedOf
 whole-address c k w a map len e = rw e

@@ -9,7 +9,7 @@ use borrow.Author.Tests.{eq-eqb, not-false}
 use Rattle.isa.specs.declared.Width.the-variants.{Word}
 use Rattle.isa.specs.declared.Kind.the-variants.{Fetch}
 use Rattle.address.specs.Align.{alignedOf}
-use Rattle.address.specs.Control.{bareOf, modeOf, pagedOf, regimeOf}
+use Rattle.address.specs.Control.{bareOf, effectiveModeOf, pagedOf, regimeOf}
 use Rattle.address.specs.Mask.{transformedOf}
 use Rattle.address.specs.declared.control.Control.{Control}
 use Rattle.place.specs.Place.{base, pagedPlaceOf, reachedOf, placeOf}
@@ -45,9 +45,9 @@ module _ (c : Control) (map : List ℕ) (len : ℕ) (bare : bareOf c ≡ true) (
 
 -- a fetch under Sv39 goes through its page
 module _ (c : Control) (a : ℕ) (map : List ℕ) (len : ℕ) (paged : bareOf c ≡ false) (aligned : a % 4 ≡ 0) where
-  fetch-paged : placeOf c Fetch Word a map len ≡ pagedPlaceOf (regimeOf c (modeOf c Fetch)) Fetch Word a map len
+  fetch-paged : placeOf c Fetch Word a map len ≡ pagedPlaceOf (regimeOf c (effectiveModeOf c Fetch)) Fetch Word a map len
   unfolding placeOf reachedOf transformedOf bareOf
-  fetch-paged = rw (word-aligned a aligned, not-false (pagedOf (modeOf c Fetch) (c .sv39)) paged)
+  fetch-paged = rw (word-aligned a aligned, not-false (pagedOf (effectiveModeOf c Fetch) (c .sv39)) paged)
 
 module _ (c : Control) (low : ℕ) (map : List ℕ) (len : ℕ) (q : Physical) (paged : bareOf c ≡ false) (start : low % 4096 ≡ 0)
     (at : placeOf c Fetch Word low map len ≡ At q) (most : len ≤ 2 ^ 20) (from : base ≤ q .0) (frame : q .0 - base + 4096 ≤ len) where
@@ -63,7 +63,7 @@ module _ (c : Control) (low : ℕ) (map : List ℕ) (len : ℕ) (q : Physical) (
         let g : a - low < 4093 = rw e at l in
         let s : base + (q .0 - base + distance leaf a) ≡ q .0 + (a - low) = rw e (omega (arith, from)) in
         fetch-paged c a map len paged z
-        ∙ page-decides (regimeOf c (modeOf c Fetch)) Fetch Word Word low a map len q
+        ∙ page-decides (regimeOf c (effectiveModeOf c Fetch)) Fetch Word Word low a map len q
         (sym (fetch-paged c low map len paged (omega (arith, start))) ∙ at)
         start (omega (arith, from, frame)) o (omega (arith, g)) (omega (arith, g, o))
         ∙ rw s;

@@ -24,7 +24,7 @@ use Rattle.page.specs.declared.map.Found.{Found}
 use Rattle.page.specs.declared.map.Found.the-variants.{Leaf, Absent}
 use Rattle.address.specs.Align.{alignedOf}
 use Rattle.address.specs.Cause.{misalignedOf, accessFaultOf, pageFaultOf}
-use Rattle.address.specs.Control.{modeOf, pagedOf, regimeOf}
+use Rattle.address.specs.Control.{effectiveModeOf, pagedOf, regimeOf}
 use Rattle.address.specs.Mask.{transformedOf}
 use Rattle.address.specs.declared.control.Control.{Control}
 use Rattle.place.specs.declared.Place.{Place}
@@ -91,7 +91,7 @@ reachedOf c m k w t map len =
 
 -- steps 1 to 9
 unfoldable pub placeOf : Control → Kind → Width → (a : ℕ) → (map : List ℕ) → (len : ℕ) → Place
-placeOf c k w a map len = reachedOf c (modeOf c k) k w (transformedOf c (modeOf c k) k a) map len
+placeOf c k w a map len = reachedOf c (effectiveModeOf c k) k w (transformedOf c (effectiveModeOf c k) k a) map len
 
 -- steps 3 and 9, of an access that is neither masked nor translated
 unfoldable pub flatPlaceOf : Kind → Width → (a len : ℕ) → Place

@@ -19,7 +19,7 @@ ghost use Prim.Native.Nat.{ℕ};
 ghost use Rattle.word.specs.Field.{fieldsOf};
 ghost use Rattle.word.specs.Immediate.{immI, immB, immU, immJ};
 ghost use Rattle.isa.specs.declared.Instruction.the-variants.{Lui, Auipc, Jal};
-ghost use Rattle.base.specs.Base.{jalrOf, branchOf, opImmOf, opImm32Of, opOf, op32Of};
+ghost use Rattle.base.specs.Base.{decodeJalrOf, decodeBranchOf, opImmOf, opImm32Of, opOf, op32Of};
 ghost use Rattle.effect.specs.Jump.{jalOf};
 ghost use Rattle.moves.specs.Moves.{Does};
 ghost use Rattle.quick.specs.Quick.{Computes};
@@ -64,7 +64,7 @@ pub fn jal(w: u32, x: &mut [u64; 32], pc: u64) -> Tried
 }
 
 pub fn jalr(w: u32, x: &mut [u64; 32], pc: u64, pad: bool) -> Tried
-    ensures { λ r. ⌜ Computes (jalrOf (fieldsOf w) (immI w)) w (now (x .entry)) pc pad r (now (x .exit)) ⌝ }
+    ensures { λ r. ⌜ Computes (decodeJalrOf (fieldsOf w) (immI w)) w (now (x .entry)) pc pad r (now (x .exit)) ⌝ }
 {
     match base::jalr(field::split(w), immediate::imm_i(w)) {
         Instruction::Jalr(rd, rs1, off) => {
@@ -79,7 +79,7 @@ pub fn jalr(w: u32, x: &mut [u64; 32], pc: u64, pad: bool) -> Tried
 }
 
 pub fn branch(w: u32, x: &mut [u64; 32], pc: u64) -> Tried
-    ensures { λ r. ⌜ ((pad : Bool) → Computes (branchOf (fieldsOf w) (immB w)) w (now (x .entry)) pc pad r (now (x .exit))) ⌝ }
+    ensures { λ r. ⌜ ((pad : Bool) → Computes (decodeBranchOf (fieldsOf w) (immB w)) w (now (x .entry)) pc pad r (now (x .exit))) ⌝ }
 {
     match base::branch(field::split(w), immediate::imm_b(w)) {
         Instruction::Branch(k, rs1, rs2, off) => {

@@ -6,5 +6,5 @@ use Rattle.rights.specs.declared.reach.Reached.{Reached}
 use Rattle.status.specs.Mode.{modeOf}
 
 -- the CSR that an address names, or illegal, in a mode with these menvcfg and senvcfg
-unfoldable pub reachedOf : (mode menvcfg senvcfg address : ℕ) → Reached
-reachedOf mode menvcfg senvcfg address = reachOf (modeOf mode) (permitsOf (modeOf mode) menvcfg senvcfg) address
+unfoldable pub csrNamedOf : (mode menvcfg senvcfg address : ℕ) → Reached
+csrNamedOf mode menvcfg senvcfg address = reachOf (modeOf mode) (permitsOf (modeOf mode) menvcfg senvcfg) address

@@ -4,11 +4,11 @@ use rights::reach;
 use rights::reach::Reached;
 use status::mode;
 ghost use mathlib.Core.Path.{_≡_};
-ghost use Rattle.regime.specs.Access.{reachedOf};
+ghost use Rattle.regime.specs.Access.{csrNamedOf};
 
 // The CSR that an address names, or illegal, in a mode with these menvcfg and senvcfg.
 pub fn reached(mode: u64, menvcfg: u64, senvcfg: u64, address: u16) -> Reached
-    ensures { λ r. ⌜ r ≡ reachedOf mode menvcfg senvcfg address ⌝ }
+    ensures { λ r. ⌜ r ≡ csrNamedOf mode menvcfg senvcfg address ⌝ }
 {
     let m = mode::mode(mode);
     reach::reach(m, enable::permits(m, menvcfg, senvcfg), address)

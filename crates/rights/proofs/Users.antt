@@ -3,8 +3,8 @@
 use mathlib.Core.Path.{_≡_, refl, sym, ap, _∙_}
 use mathlib.Core.Bool.{Bool, true, false, _||_}
 use Prim.Native.Nat.{ℕ}
-use Rattle.word.specs.Choice.{pick, look, every}
-use Rattle.word.proofs.Tables.{checked}
+use Rattle.word.specs.Choice.{pick, look}
+use Rattle.word.proofs.Tables.{every, checked}
 use Rattle.isa.specs.declared.Mode.the-variants.{User}
 use Rattle.rights.specs.Reach.{addresses, below, reachOf}
 use Rattle.csr.specs.declared.Csr.{Csr}

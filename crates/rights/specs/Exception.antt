@@ -14,7 +14,7 @@ abbrev pub breakpointOf : (pc : ℕ) → Exception
 breakpointOf pc = record { cause = 3; tval = pc }
 
 -- ECALL: 8, 9, 11, tval 0
-abbrev pub callOf : Mode → Exception
-callOf User = record { cause = 8; tval = 0 }
-callOf Supervisor = record { cause = 9; tval = 0 }
-callOf Machine = record { cause = 11; tval = 0 }
+abbrev pub ecallOf : Mode → Exception
+ecallOf User = record { cause = 8; tval = 0 }
+ecallOf Supervisor = record { cause = 9; tval = 0 }
+ecallOf Machine = record { cause = 11; tval = 0 }

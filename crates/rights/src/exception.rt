@@ -1,7 +1,7 @@
 // What cause and tval hold of an exception that an instruction makes by itself.
 use isa::Mode;
 ghost use mathlib.Core.Path.{_≡_};
-ghost use Rattle.rights.specs.Exception.{illegalOf, breakpointOf, callOf};
+ghost use Rattle.rights.specs.Exception.{illegalOf, breakpointOf, ecallOf};
 
 pub struct Exception {
     pub cause: u8,
@@ -27,7 +27,7 @@ pub fn breakpoint(pc: u64) -> Exception
 
 // ECALL out of a mode.
 pub fn call(m: Mode) -> Exception
-    ensures { λ r. ⌜ r ≡ callOf m ⌝ }
+    ensures { λ r. ⌜ r ≡ ecallOf m ⌝ }
 {
     match m {
         Mode::User => Exception { cause: 8, tval: 0 },

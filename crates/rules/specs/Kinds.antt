@@ -4,8 +4,8 @@ use Rattle.word.specs.Choice.{Table, _⇒_¦_, otherwise, look}
 use Rattle.isa.specs.declared.Kind.{Kind}
 use Rattle.isa.specs.declared.Kind.the-variants.{Fetch, Load, Store, Push, Pop, Swap}
 
-abbrev pub kinds : Table Kind
-kinds = 0 ⇒ Fetch ¦ 1 ⇒ Load ¦ 2 ⇒ Store ¦ 3 ⇒ Push ¦ 4 ⇒ Pop ¦ otherwise Swap
+abbrev pub caseKinds : Table Kind
+caseKinds = 0 ⇒ Fetch ¦ 1 ⇒ Load ¦ 2 ⇒ Store ¦ 3 ⇒ Push ¦ 4 ⇒ Pop ¦ otherwise Swap
 
-unfoldable pub kindOf : ℕ → Kind
-kindOf n = look n kinds
+unfoldable pub caseKindOf : ℕ → Kind
+caseKindOf n = look n caseKinds

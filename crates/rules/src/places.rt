@@ -7,7 +7,7 @@
 // physical address and 0, or 1, the cause and tval.
 ghost use lib.ListN.{length};
 ghost use mathlib.Core.Path.{_≡_};
-ghost use Rattle.rules.specs.Kinds.{kindOf};
+ghost use Rattle.rules.specs.Kinds.{caseKindOf};
 ghost use Prim.Native.Nat.{_≤_, _^_};
 use super::width;
 use address::Virtual;
@@ -24,7 +24,7 @@ const MAP: usize = 14;
 
 // The kind of access that a number stands for.
 pub fn kind(n: u64) -> Kind
-    ensures { λ r. ⌜ r ≡ kindOf n ⌝ }
+    ensures { λ r. ⌜ r ≡ caseKindOf n ⌝ }
 {
     match n {
         0 => Kind::Fetch,

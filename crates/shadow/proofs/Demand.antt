@@ -36,8 +36,8 @@ use Rattle.hart.specs.declared.Hart.{Hart}
 use Rattle.call.proofs.Accepted.{no-refusal}
 use Rattle.origin.proofs.Users.{in-user, sv39-on, Same, same}
 use Rattle.origin.specs.Force.{inForce}
-use Rattle.shadow.specs.Promise.{StandsOnce, Starts, Event, Stretch, start, step, Shadow, unmatched, PopCheck, Permitted, matchOf, Promise}
-use Rattle.shadow.specs.Promise.{Claim}
+use Rattle.shadow.specs.Promise.{StandsOnce, ShadowStarts, Event, Stretch, start, step, Shadow, unmatched, PopCheck, Permitted, matchOf, Promise}
+use Rattle.shadow.specs.Promise.{ShadowClaim}
 use Rattle.shadow.proofs.Geometry.{Geometry}
 use Rattle.shadow.proofs.Invariant.{inv-start}
 use Rattle.shadow.proofs.Slots.{geometry}
@@ -114,7 +114,7 @@ module _ (map : List ℕ) (h₀ : Hart) (m₀ : List ℕ) (N : Enough map h₀ m
       record { pointer = I .pointer; bytes = I .bytes; checks = λ f. checked es h m (on f) I }
 
 -- what the user's words give is enough
-enough : (map : List ℕ) (h₀ : Hart) (m₀ : List ℕ) → Starts map h₀ m₀ → Enough map h₀ m₀
+enough : (map : List ℕ) (h₀ : Hart) (m₀ : List ℕ) → ShadowStarts map h₀ m₀ → Enough map h₀ m₀
 enough map h₀ m₀ S =
     let L = lawful-hart h₀ (not-false (legal h₀) (no-refusal h₀ m₀ map (S .accepted) .0)) .words in
     record {
@@ -127,5 +127,5 @@ enough map h₀ m₀ S =
     }
 
 -- the theorem
-pub shadow-stack : Claim
+pub shadow-stack : ShadowClaim
 shadow-stack map h₀ m₀ S es h m trapped r = promised map h₀ m₀ (enough map h₀ m₀ S) es h m trapped r

@@ -24,7 +24,7 @@ use Rattle.leaf.specs.declared.Leaf as leaf
 use Rattle.judge.specs.declared.Verdict.the-variants.{Granted}
 use Rattle.place.proofs.Reach.{Paged, place-aligned, place-paged, place-in-page, shadow-paged}
 use Rattle.address.specs.Align.{alignedOf}
-use Rattle.address.specs.Control.{modeOf, pagedOf, regimeOf}
+use Rattle.address.specs.Control.{effectiveModeOf, pagedOf, regimeOf}
 use Rattle.address.specs.Mask.{maskedOf, transformedOf}
 use Rattle.place.specs.Place.{base, frameOf, withinOf, Within, insideOf, physicalOf, settleOf, throughOf, pagedPlaceOf, reachedOf, placeOf}
 use Rattle.place.specs.declared.Physical.{Physical}
@@ -68,7 +68,7 @@ pop-granted g l e = granted g l kind.Pop (pop-held g l (held g l kind.Push e))
 -- where a push may store, a pop-check may read
 pub push-pop : (c : Control) (w : Width) (a : ℕ) (map : List ℕ) (len : ℕ) (q : Physical)
     → placeOf c kind.Push w a map len ≡ At q → placeOf c kind.Pop w a map len ≡ At q
-unfolding placeOf modeOf transformedOf
+unfolding placeOf effectiveModeOf transformedOf
 push-pop c w a map len q e =
     let s = shadow-paged c kind.Push w a map len q e refl in
     let P = place-paged c kind.Push w a map len q e s in
@@ -107,7 +107,7 @@ pub store-beside : (c : Control) (w : Width) (a : ℕ) (map : List ℕ) (len : �
 store-beside c w a map len q user sv39 once e o x =
     let B = behind c kind.Store w a map len q e (user-paged c kind.Store user sv39) in
     let off = not-true (shadowPage (c .sse) (leafOf (leafAt map (B .entry)))) (B .held .own) in
-    beside (q .0) (sizeOf w) (frameOf (leafAt map (B .entry))) (transformedOf c (modeOf c kind.Store) kind.Store a) (base + o)
+    beside (q .0) (sizeOf w) (frameOf (leafAt map (B .entry))) (transformedOf c (effectiveModeOf c kind.Store) kind.Store a) (base + o)
     (frameOf (leafAt map (x .entry)))
     (B .frame) (place-in-page c kind.Store w a map len q e .0) (x .frame)
     (other-frame c map once (B .entry) (B .stands) (B .valid) off o x)

@@ -20,7 +20,7 @@ use Rattle.hart.specs.Step.{planOf, stepFrom}
 use Rattle.hart.specs.declared.Hart.{Hart}
 use Rattle.machine.proofs.Chained.{step-accepted}
 use Rattle.call.specs.Call.{Called, refusalOf, runRefusalOf, stepFromCall, runCall}
-use Rattle.shadow.specs.Promise.{Starts, Event, eventOf, NoSwap, NoPointerWrite, Stretch, start, step, Promise}
+use Rattle.shadow.specs.Promise.{ShadowStarts, Event, eventOf, NoSwap, NoPointerWrite, Stretch, start, step, Promise}
 use Rattle.shadow.proofs.Demand.{shadow-stack}
 
 -- the effect of the step that a run makes after k steps
@@ -110,7 +110,7 @@ module _ (map : List ℕ) (h₀ : Hart) (m₀ : List ℕ) where
   not-over budget e l = rw (e, le-ltb 1000000 budget l)
 
   -- the promise of a call `run`, of what it leaves
-  pub run-keeps : (budget : ℕ) → Starts map h₀ m₀ → budget ≤ 1000000 → Undisturbed budget h₀ m₀ map
+  pub run-keeps : (budget : ℕ) → ShadowStarts map h₀ m₀ → budget ≤ 1000000 → Undisturbed budget h₀ m₀ map
       → Promise map h₀ m₀ (runEvents budget h₀ m₀ map)
       (runCall budget h₀ m₀ map .answer .hart) (runCall budget h₀ m₀ map .memory) (runCall budget h₀ m₀ map .answer .trapped)
   run-keeps budget S l calm =

@@ -16,7 +16,7 @@ use Rattle.isa.specs.declared.Kind.the-variants as kind
 use Rattle.isa.specs.declared.Mode.the-variants.{User}
 use Rattle.isa.specs.declared.Mode.{Mode}
 use Rattle.place.proofs.Reach.{place-aligned, shadow-paged}
-use Rattle.address.specs.Control.{modeOf}
+use Rattle.address.specs.Control.{effectiveModeOf}
 use Rattle.address.specs.Mask.{pmlenOf, maskOf, transformedOf}
 use Rattle.place.specs.Place.{base, frameOf, Within, canonicalOf, pageNumber, reachedOf, placeOf}
 use Rattle.place.specs.declared.Physical.{Physical}
@@ -58,7 +58,7 @@ module _ (c : Control) (map : List ℕ) (len : ℕ) (user : c .mode ≡ User) (s
   bits = masked (c .upmm)
 
   abbrev m : Mode
-  m = modeOf c kind.Pop
+  m = effectiveModeOf c kind.Pop
 
   abbrev slot : ℕ → Place
   slot a = placeOf c kind.Pop Double a map len
@@ -68,7 +68,7 @@ module _ (c : Control) (map : List ℕ) (len : ℕ) (user : c .mode ≡ User) (s
   virtual a = signExtendOf (64 - p) a
 
   transformed : (a : ℕ) → transformedOf c m kind.Pop a ≡ virtual a
-  unfolding transformedOf modeOf maskOf
+  unfolding transformedOf effectiveModeOf maskOf
   transformed a = rw (user, sv39)
 
   slot-at : (a : ℕ) → slot a ≡ reachedOf c m kind.Pop Double (virtual a) map len

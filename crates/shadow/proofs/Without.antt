@@ -46,7 +46,7 @@ use Rattle.hart.specs.Step.{Outcome, csrOf, wholeOf, planOf, stepFrom}
 use Rattle.hart.specs.declared.Hart.{Hart}
 use Rattle.call.specs.Call.{refusalOf}
 use Rattle.origin.specs.Force.{inForce}
-use Rattle.shadow.specs.Promise.{StandsOnce, Starts, quiet, NoSwap, NoPointerWrite, Stretch, start, pushes, pops, Shadow, latest, PopCheck}
+use Rattle.shadow.specs.Promise.{StandsOnce, ShadowStarts, quiet, NoSwap, NoPointerWrite, Stretch, start, pushes, pops, Shadow, latest, PopCheck}
 use Rattle.shadow.specs.Promise.{Permitted, unmatched, Promise}
 use Rattle.shadow.proofs.Witness.{memory₀, map₀, hart₀, once₀, no-swap, no-pointer-write, then}
 
@@ -70,7 +70,7 @@ abbrev pub Once : (map : List ℕ) → Hart → Type 0
 Once map h = StandsOnce (inForce h) map
 
 -- these are all
-pub together : (map : List ℕ) (h : Hart) → Accepted map h → InUser h → Sv39 h → Menvcfg h → Senvcfg h → Once map h → Starts map h memory₀
+pub together : (map : List ℕ) (h : Hart) → Accepted map h → InUser h → Sv39 h → Menvcfg h → Senvcfg h → Once map h → ShadowStarts map h memory₀
 together map h accepted user sv39 menvcfg senvcfg once =
     record { accepted = accepted; user = user; sv39 = sv39; menvcfg = menvcfg; senvcfg = senvcfg; once = once }
 
@@ -169,9 +169,9 @@ record Computed : Type 0 where
   disabled-goes-on : stepFrom (Given sspopchk) disabled memory₀ map₀ .trapped ≡ false
 
 computed : Computed
-unfolding refusalOf legal wordsLegal memory.refusedOf page.refusedOf page.pagesOf page.anyLarge page.riseFrom page.strictlyRise stepFrom wholeOf
-    csrOf writtenOf shownOf effectOf fetchedOf arrivedOf landedOf executeOf decodeOf base.storeOf swapOf system.systemOf system.csrOf zimopOf
-    csrs.csrOf csrs.reachedOf reachOf accessOf passedOf atOf doneOf placeOf reachedOf control.modeOf transformedOf maskOf alignedOf pagedPlaceOf
+unfolding refusalOf legal wordsLegal memory.memoryRefusedOf page.mapRefusedOf page.pagesOf page.anyLarge page.riseFrom page.strictlyRise stepFrom wholeOf
+    csrOf writtenOf shownOf effectOf fetchedOf arrivedOf landedOf executeOf decodeOf base.decodeStoreOf swapOf system.systemOf system.decodeCsrOf zimopOf
+    csrs.csrEffectOf csrs.csrReachedOf reachOf accessOf passedOf atOf doneOf placeOf reachedOf control.effectiveModeOf transformedOf maskOf alignedOf pagedPlaceOf
     plainPlaceOf throughOf page.lookupOf settleOf judgeOf insideOf withinOf settingOf controlOf shadowOn padOn modeOf memory₀ bytesOf number
     loadOf extendOf
 computed = record {
@@ -242,7 +242,7 @@ needs-user = (
 
 -- "without a shadow swap"
 pub needs-no-swap :
-    Starts map₀ swapping memory₀
+    ShadowStarts map₀ swapping memory₀
     × NoPointerWrite (planOf (Given ssamoswap) swapping memory₀ map₀)
     × (planOf (Given ssamoswap) swapping memory₀ map₀ ≡ Swap 0 0x1111 there Double 0x2222 4)
     × (stepFrom (Given ssamoswap) swapping memory₀ map₀ ≡ left swapping changed)
@@ -257,7 +257,7 @@ needs-no-swap = (
 
 -- "without a write of the shadow pointer by a CSR instruction"
 pub needs-no-pointer-write :
-    Starts map₀ pointing memory₀
+    ShadowStarts map₀ pointing memory₀
     × NoSwap (planOf (Given csrrw) pointing memory₀ map₀)
     × (planOf (Given csrrw) pointing memory₀ map₀ ≡ Whole (Csr operation.Write Ssp true 0x1020 0 4))
     × (stepFrom (Given csrrw) pointing memory₀ map₀ ≡ left (withWord SSP 0x1020 pointing) memory₀)

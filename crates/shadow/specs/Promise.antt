@@ -8,7 +8,7 @@
 --   its starting byte; and a pop-check that no landing pad check stops and whose access is permitted traps exactly when its
 --   register differs from the push it matches, last in first out, or, with none unmatched, from the starting bytes at its address.
 --
--- `Claim`, at the end, is the whole: `Starts`, `Stretch` and `Promise` are its three sentences. Each definition stands under the words that
+-- `ShadowClaim`, at the end, is the whole: `ShadowStarts`, `Stretch` and `Promise` are its three sentences. Each definition stands under the words that
 -- it renders, in quotes, in their order but for what another one needs first.
 --
 -- Below, h is the hart, m memory, map the page map; h₀ and m₀ are those that the stretch starts from. A step is `stepFrom`, which the
@@ -63,7 +63,7 @@ StandsOnce c map =
     → frameOf (leafAt map j) ≡ frameOf (leafAt map i) → j ≡ i
 
 -- "Start in user mode with Sv39 and both shadow-stack enables on", from a state that refusals 1 to 3 do not apply to
-pub record Starts (map : List ℕ) (h₀ : Hart) (m₀ : List ℕ) : Type 0 where
+pub record ShadowStarts (map : List ℕ) (h₀ : Hart) (m₀ : List ℕ) : Type 0 where
   pub accepted : refusalOf h₀ m₀ map ≡ 0
   pub user : MODE of h₀ .words ≡ 0
   pub sv39 : SATP of h₀ .words / 2 ^ 60 ≡ 8
@@ -185,8 +185,8 @@ pub record Promise (map : List ℕ) (h₀ : Hart) (m₀ : List ℕ) (es : List E
       → (stepFrom source h m map .trapped ≡ true) ↔ (v ≡ matchOf es m₀ q → ⊥)
 
 -- the whole: "Start ..", "Take ..", "Then .."
-abbrev pub Claim : Type 0
-Claim =
-    (map : List ℕ) (h₀ : Hart) (m₀ : List ℕ) → Starts map h₀ m₀
+abbrev pub ShadowClaim : Type 0
+ShadowClaim =
+    (map : List ℕ) (h₀ : Hart) (m₀ : List ℕ) → ShadowStarts map h₀ m₀
     → (es : List Event) (h : Hart) (m : List ℕ) (trapped : Bool) → Stretch map h₀ m₀ es h m trapped
     → Promise map h₀ m₀ es h m trapped

@@ -11,7 +11,7 @@ use Rattle.hart.specs.Hart.{hart}
 use Rattle.hart.specs.Run.{Run, once, runOf}
 use Rattle.hart.specs.Step.{stepFrom}
 use Rattle.call.specs.Call.{calledOf, refusalOf, runRefusalOf, stepFromCall, runCall}
-use Rattle.hex.specs.Load.{loadOf}
+use Rattle.hex.specs.Load.{loadHexOf}
 use Rattle.hex.proofs.Kept.{refused-changes-nothing}
 use Rattle.sporhulma.specs.Load.{loadLeft}
 use Rattle.sporhulma.specs.Boundary.{Left, leftBy, stepLeft, stepWordLeft, runLeft}
@@ -47,5 +47,5 @@ module _ (x rest m map : List ℕ) where
 
 -- a refused load changes no byte, and hands back no start address
 pub load-keeps : (text mem : List ℕ) → (loadLeft text mem .result ≡ 0 → ⊥)
-    → (loadLeft text mem .memory ≡ mem) × (loadLeft text mem .answer ≡ (loadOf text mem .answer .line ∷ 0 ∷ 0 ∷ []))
+    → (loadLeft text mem .memory ≡ mem) × (loadLeft text mem .answer ≡ (loadHexOf text mem .answer .line ∷ 0 ∷ 0 ∷ []))
 load-keeps text mem h = let (m, g, s) = refused-changes-nothing text mem h in (m, rw (g, s))

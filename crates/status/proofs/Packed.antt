@@ -5,11 +5,16 @@ use mathlib.Core.Bool.{Bool, true, false}
 use Prim.Native.Nat.{ℕ, zero, suc, _+_, _*_, _/_, _%_, _^_, _<_}
 use native.Mathlib.Omega.{arith}
 use lib.Dec.{eqb}
-use Rattle.word.specs.Row.{writeOf, readOf, legalOf}
+use Rattle.word.specs.Choice.{pick}
+use Rattle.word.specs.Row.{rowWriteOf, rowReadOf, rowLegalOf}
 use Rattle.status.specs.Fields.{isMpp, mstatus, sstatus}
-use Rattle.status.specs.Status.{num, statusOf, wordOf, withMpp, mergedOf, throughOf}
+use Rattle.status.specs.Status.{num, statusOf, statusWordOf, withMpp, sstatusWrittenOf}
 use Rattle.status.specs.declared.Status.{Status}
 use Rattle.word.proofs.Rows.{left, each, shown}
+
+-- a write of v to mstatus over old: writing 2 to MPP keeps the old MPP
+abbrev pub mstatusWrittenOf : (old v : Status) → Status
+mstatusWrittenOf old v = withMpp v (pick (isMpp (v .mpp)) (v .mpp) (old .mpp))
 
 parity : (d : ℕ) → d < 2 → num (eqb d 1) ≡ d
 parity zero h = refl
@@ -20,23 +25,23 @@ num-bit : (x : ℕ) → num (eqb (x % 2) 1) ≡ x % 2
 num-bit x = parity (x % 2) (omega arith)
 
 -- a write of the word is a write of the struct
-pub merges : (old v : ℕ) → writeOf mstatus old v ≡ wordOf (mergedOf (statusOf old) (statusOf v))
+pub merges : (old v : ℕ) → rowWriteOf mstatus old v ≡ statusWordOf (mstatusWrittenOf (statusOf old) (statusOf v))
 merges old v = simp num-bit (omega arith)
 
 -- so is a write through sstatus
-pub views : (old v : ℕ) → writeOf sstatus old v ≡ wordOf (throughOf (statusOf old) (statusOf v))
+pub views : (old v : ℕ) → rowWriteOf sstatus old v ≡ statusWordOf (sstatusWrittenOf (statusOf old) (statusOf v))
 views old v = simp num-bit (omega arith)
 
 -- a read of the word is a read of the struct
-pub shows : (m : ℕ) → readOf mstatus m ≡ wordOf (statusOf m)
+pub shows : (m : ℕ) → rowReadOf mstatus m ≡ statusWordOf (statusOf m)
 shows m = simp num-bit (omega arith)
 
 -- as the code goes
-pub written : (old v mode w : ℕ) (s t : Status) → s ≡ statusOf v → mode ≡ mergedOf (statusOf old) (statusOf v) .mpp → t ≡ withMpp s mode → w
-    ≡ wordOf t
-    → w ≡ writeOf mstatus old v
+pub written : (old v mode w : ℕ) (s t : Status) → s ≡ statusOf v → mode ≡ mstatusWrittenOf (statusOf old) (statusOf v) .mpp → t ≡ withMpp s mode → w
+    ≡ statusWordOf t
+    → w ≡ rowWriteOf mstatus old v
 written old v mode w s t a b c d =
-    d ∙ ap wordOf (c ∙ ap (λ (x : Status). withMpp x mode) a ∙ ap (λ (k : ℕ). withMpp (statusOf v) k) b) ∙ sym (merges old v)
+    d ∙ ap statusWordOf (c ∙ ap (λ (x : Status). withMpp x mode) a ∙ ap (λ (k : ℕ). withMpp (statusOf v) k) b) ∙ sym (merges old v)
 
 -- the digits of the sum
 module _ (a b c d e p f g h i j : ℕ) (ha : a < 2) (hb : b < 2) (hc : c < 2) (hd : d < 2) (he : e < 2) (hp : p < 4) (hf : f < 2) (hg : g < 2)
@@ -64,7 +69,7 @@ read true = refl
 read false = refl
 
 -- the struct survives its word
-pub unpacked : (s : Status) → s .mpp < 4 → statusOf (wordOf s) ≡ s
+pub unpacked : (s : Status) → s .mpp < 4 → statusOf (statusWordOf s) ≡ s
 unpacked s l =
     let (a, b, c, d, e, p, f, g, h, i, j) =
     digits (num (s .sie)) (num (s .mie)) (num (s .spie)) (num (s .mpie)) (num (s .spp)) (s .mpp) (num (s .mprv)) (num (s .sum)) (num (s .mxr))
@@ -77,21 +82,21 @@ unpacked s l =
 abbrev pub start : ℕ
 start = 2 * 2 ^ 32 + 2 * 2 ^ 34
 
-merged-same : (r s : Status) → isMpp (s .mpp) ≡ true → mergedOf r s ≡ s
+merged-same : (r s : Status) → isMpp (s .mpp) ≡ true → mstatusWrittenOf r s ≡ s
 merged-same r s ok = rw ok
 
 -- a struct whose MPP is a mode makes a word that mstatus can hold
-pub packed : (s : Status) → s .mpp < 4 → isMpp (s .mpp) ≡ true → legalOf mstatus (wordOf s) ≡ true
+pub packed : (s : Status) → s .mpp < 4 → isMpp (s .mpp) ≡ true → rowLegalOf mstatus (statusWordOf s) ≡ true
 packed s l ok =
-    let e : writeOf mstatus start (wordOf s) ≡ wordOf s =
-    merges start (wordOf s) ∙ ap (λ (t : Status). wordOf (mergedOf (statusOf start) t)) (unpacked s l)
-    ∙ ap wordOf (merged-same (statusOf start) s ok) in
-    rw (e) at (left mstatus start (wordOf s) refl refl)
+    let e : rowWriteOf mstatus start (statusWordOf s) ≡ statusWordOf s =
+    merges start (statusWordOf s) ∙ ap (λ (t : Status). statusWordOf (mstatusWrittenOf (statusOf start) t)) (unpacked s l)
+    ∙ ap statusWordOf (merged-same (statusOf start) s ok) in
+    rw (e) at (left mstatus start (statusWordOf s) refl refl)
 
 -- a word that mstatus can hold has a mode in MPP
-pub modes : (m : ℕ) → legalOf mstatus m ≡ true → isMpp (statusOf m .mpp) ≡ true
+pub modes : (m : ℕ) → rowLegalOf mstatus m ≡ true → isMpp (statusOf m .mpp) ≡ true
 modes m h = each 10 0 mstatus m h
 
 -- a word that mstatus can hold is all in its fields
-pub whole : (m : ℕ) → m < 2 ^ 64 → legalOf mstatus m ≡ true → wordOf (statusOf m) ≡ m
+pub whole : (m : ℕ) → m < 2 ^ 64 → rowLegalOf mstatus m ≡ true → statusWordOf (statusOf m) ≡ m
 whole m l h = sym (shows m) ∙ shown mstatus m refl l h

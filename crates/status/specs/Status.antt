@@ -1,8 +1,6 @@
 -- mstatus as a struct of its fields, and what a write makes of it. Rules 5.5 to 5.8 of docs/HART.md.
 use mathlib.Core.Bool.{Bool, true, false}
 use Prim.Native.Nat.{ℕ, _+_, _*_, _/_, _%_, _^_}
-use Rattle.word.specs.Choice.{pick}
-use Rattle.status.specs.Fields.{isMpp}
 use Rattle.word.specs.Row.{bitOf}
 use Rattle.status.specs.declared.Status.{Status}
 
@@ -26,8 +24,8 @@ statusOf m = record {
 }
 
 -- UXL and SXL read 2
-abbrev pub wordOf : Status → ℕ
-wordOf s =
+abbrev pub statusWordOf : Status → ℕ
+statusWordOf s =
     num (s .sie) * 2 ^ 1 + num (s .mie) * 2 ^ 3 + num (s .spie) * 2 ^ 5 + num (s .mpie) * 2 ^ 7 + num (s .spp) * 2 ^ 8 + s .mpp * 2 ^ 11
     + num (s .mprv) * 2 ^ 17 + num (s .sum) * 2 ^ 18 + num (s .mxr) * 2 ^ 19 + num (s .spelp) * 2 ^ 23 + 2 * 2 ^ 32 + 2 * 2 ^ 34 + num
     (s .mpelp) * 2 ^ 41
@@ -47,13 +45,9 @@ withMpp s mode = record {
   mpelp = s .mpelp;
 }
 
--- a write of v to mstatus over old: writing 2 to MPP keeps the old MPP
-abbrev pub mergedOf : (old v : Status) → Status
-mergedOf old v = withMpp v (pick (isMpp (v .mpp)) (v .mpp) (old .mpp))
-
 -- a write of v to sstatus over s
-abbrev pub throughOf : (s v : Status) → Status
-throughOf s v = record {
+abbrev pub sstatusWrittenOf : (s v : Status) → Status
+sstatusWrittenOf s v = record {
   sie = v .sie;
   mie = s .mie;
   spie = v .spie;

@@ -3,9 +3,9 @@ use super::Status;
 use super::pack;
 use word::choice;
 ghost use mathlib.Core.Path.{_≡_};
-ghost use Rattle.word.specs.Row.{writeOf, readOf};
+ghost use Rattle.word.specs.Row.{rowWriteOf, rowReadOf};
 ghost use Rattle.status.specs.Fields.{mstatus, sstatus};
-ghost use Rattle.status.specs.Status.{withMpp, throughOf};
+ghost use Rattle.status.specs.Status.{withMpp, sstatusWrittenOf};
 
 fn with_mpp(s: Status, mode: u64) -> Status
     ensures { λ r. ⌜ r ≡ withMpp s mode ⌝ }
@@ -27,7 +27,7 @@ fn with_mpp(s: Status, mode: u64) -> Status
 
 // What a write of v to mstatus leaves: writing 2 to MPP keeps the old MPP.
 pub fn write(old: u64, v: u64) -> u64
-    ensures { λ r. ⌜ r ≡ writeOf mstatus old v ⌝ }
+    ensures { λ r. ⌜ r ≡ rowWriteOf mstatus old v ⌝ }
 {
     let mpp = v / 0x800 % 4;
     pack::word(with_mpp(
@@ -37,7 +37,7 @@ pub fn write(old: u64, v: u64) -> u64
 }
 
 fn through(s: Status, v: Status) -> Status
-    ensures { λ r. ⌜ r ≡ throughOf s v ⌝ }
+    ensures { λ r. ⌜ r ≡ sstatusWrittenOf s v ⌝ }
 {
     Status {
         sie: v.sie,
@@ -56,21 +56,21 @@ fn through(s: Status, v: Status) -> Status
 
 // What a write of v to sstatus leaves in mstatus.
 pub fn write_view(old: u64, v: u64) -> u64
-    ensures { λ r. ⌜ r ≡ writeOf sstatus old v ⌝ }
+    ensures { λ r. ⌜ r ≡ rowWriteOf sstatus old v ⌝ }
 {
     pack::word(through(pack::split(old), pack::split(v)))
 }
 
 // What a read of mstatus shows.
 pub fn shown(m: u64) -> u64
-    ensures { λ r. ⌜ r ≡ readOf mstatus m ⌝ }
+    ensures { λ r. ⌜ r ≡ rowReadOf mstatus m ⌝ }
 {
     pack::word(pack::split(m))
 }
 
 // What a read of sstatus shows: UXL, and no SXL.
 pub fn view(m: u64) -> u64
-    ensures { λ r. ⌜ r ≡ readOf sstatus m ⌝ }
+    ensures { λ r. ⌜ r ≡ rowReadOf sstatus m ⌝ }
 {
     m / 0x2 % 2 * 0x2
         + m / 0x20 % 2 * 0x20

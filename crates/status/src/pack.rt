@@ -2,7 +2,7 @@
 use super::Status;
 ghost use mathlib.Core.Path.{_≡_};
 ghost use Prim.Native.Nat.{_<_};
-ghost use Rattle.status.specs.Status.{num, statusOf, wordOf};
+ghost use Rattle.status.specs.Status.{num, statusOf, statusWordOf};
 
 pub fn split(m: u64) -> Status
     ensures { λ r. ⌜ (r ≡ statusOf m) × (r .mpp < 4) ⌝ }
@@ -30,7 +30,7 @@ fn bit(b: bool) -> u64
 
 pub fn word(s: Status) -> u64
     requires { ⌜ s .mpp < 4 ⌝ }
-    ensures { λ r. ⌜ r ≡ wordOf s ⌝ }
+    ensures { λ r. ⌜ r ≡ statusWordOf s ⌝ }
 {
     bit(s.sie) * 0x2
         + bit(s.mie) * 0x8

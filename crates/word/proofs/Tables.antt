@@ -1,12 +1,27 @@
 -- The laws of tables.
 -- Assumes nothing.
-use mathlib.Core.Bool.{Bool, true, false}
+use mathlib.Core.Bool.{Bool, true, false, _&&_}
 use mathlib.Core.Path.{_≡_, refl, ap, _∙_}
 use Prim.Native.Nat.{ℕ}
 use lib.Dec.{eqb}
 use borrow.Author.Tests.{ne-eqb, eqb-true}
-use Rattle.word.specs.Choice.{Table, _⇒_¦_, otherwise, pick, look, rest, every, Missed}
+use Rattle.word.specs.Choice.{Table, _⇒_¦_, otherwise, pick, look}
 use Rattle.word.proofs.Bools.{both}
+
+-- what stands for a key that no row has
+abbrev pub rest : {A : Type 0} → Table A → A
+rest (k ⇒ a ¦ t) = rest t
+rest (otherwise a) = a
+
+-- n is no row's key, said behind U
+abbrev pub Missed : {A : Type 0} → ℕ → Table A → Type 0 → Type 0
+Missed n (k ⇒ a ¦ t) U = Missed n t (U × (n ≡ k → ⊥))
+Missed n (otherwise a) U = U
+
+-- every row passes a test of its key and what it stands for
+abbrev pub every : {A : Type 0} → (ℕ → A → Bool) → Table A → Bool
+every test (k ⇒ a ¦ t) = test k a && every test t
+every test (otherwise a) = true
 
 -- what was said before a table's keys still holds behind them
 behind : {A : Type 0} (n : ℕ) (t : Table A) (U : Type 0) → Missed n t U → U

@@ -1,6 +1,5 @@
 -- Choices by a test, and tables by a key: what every definition that goes by cases is made of.
-use mathlib.Core.Bool.{Bool, true, false, _&&_}
-use mathlib.Core.Path.{_≡_}
+use mathlib.Core.Bool.{Bool, true, false}
 use Prim.Native.Nat.{ℕ}
 use lib.Dec.{eqb}
 
@@ -18,18 +17,3 @@ pub data Table (A : Type 0) : Type 0 where
 abbrev pub look : {A : Type 0} → ℕ → Table A → A
 look n (k ⇒ a ¦ t) = pick (eqb n k) a (look n t)
 look n (otherwise a) = a
-
--- what stands for a key that no row has
-abbrev pub rest : {A : Type 0} → Table A → A
-rest (k ⇒ a ¦ t) = rest t
-rest (otherwise a) = a
-
--- n is no row's key, said behind U
-abbrev pub Missed : {A : Type 0} → ℕ → Table A → Type 0 → Type 0
-Missed n (k ⇒ a ¦ t) U = Missed n t (U × (n ≡ k → ⊥))
-Missed n (otherwise a) U = U
-
--- every row passes a test of its key and what it stands for
-abbrev pub every : {A : Type 0} → (ℕ → A → Bool) → Table A → Bool
-every test (k ⇒ a ¦ t) = test k a && every test t
-every test (otherwise a) = true

@@ -1,9 +1,9 @@
 -- A control register as a row of fields, from bit 0 upward to bit 63: what a write leaves, what a read shows, and which words it
 -- can hold. Rules 5.5 to 5.21 of docs/HART.md.
-use mathlib.Core.Bool.{Bool, true, false, _&&_}
+use mathlib.Core.Bool.{Bool, true, _&&_}
 use mathlib.Core.List.{List, [], _∷_}
 use Prim.Native.Nat.{ℕ, zero, suc, _+_, _-_, _*_, _/_, _%_, _^_}
-use lib.Dec.{eqb, ltb}
+use lib.Dec.{eqb}
 use Rattle.word.specs.Choice.{pick}
 
 -- n bits each
@@ -19,12 +19,12 @@ pub data Field : Type 0 where
   -- stored, and not seen through this register: reads 0 and is not written; these are the values that it can hold
   Hidden : (n : ℕ) → (ℕ → Bool) → Field
 
-abbrev pub widthOf : Field → ℕ
-widthOf (Fixed n k) = n
-widthOf (Covered n k) = n
-widthOf (Any n) = n
-widthOf (Only n ok) = n
-widthOf (Hidden n ok) = n
+abbrev pub fieldWidthOf : Field → ℕ
+fieldWidthOf (Fixed n k) = n
+fieldWidthOf (Covered n k) = n
+fieldWidthOf (Any n) = n
+fieldWidthOf (Only n ok) = n
+fieldWidthOf (Hidden n ok) = n
 
 -- what a write of v over old leaves in a field, each as the field's own number
 abbrev pub takesOf : Field → (old v : ℕ) → ℕ
@@ -61,27 +61,27 @@ digit k n w = w / 2 ^ k % 2 ^ n
 abbrev pub writeFrom : ℕ → List Field → (old v : ℕ) → ℕ
 writeFrom k [] old v = 0
 writeFrom k (f ∷ fs) old v =
-    takesOf f (digit k (widthOf f) old) (digit k (widthOf f) v) * 2 ^ k + writeFrom (k + widthOf f) fs old v
+    takesOf f (digit k (fieldWidthOf f) old) (digit k (fieldWidthOf f) v) * 2 ^ k + writeFrom (k + fieldWidthOf f) fs old v
 
 abbrev pub readFrom : ℕ → List Field → ℕ → ℕ
 readFrom k [] m = 0
-readFrom k (f ∷ fs) m = showsOf f (digit k (widthOf f) m) * 2 ^ k + readFrom (k + widthOf f) fs m
+readFrom k (f ∷ fs) m = showsOf f (digit k (fieldWidthOf f) m) * 2 ^ k + readFrom (k + fieldWidthOf f) fs m
 
 abbrev pub legalFrom : ℕ → List Field → ℕ → Bool
 legalFrom k [] m = true
-legalFrom k (f ∷ fs) m = holdsOf f (digit k (widthOf f) m) && legalFrom (k + widthOf f) fs m
+legalFrom k (f ∷ fs) m = holdsOf f (digit k (fieldWidthOf f) m) && legalFrom (k + fieldWidthOf f) fs m
 
 -- the word that a write of v over old leaves
-abbrev pub writeOf : List Field → (old v : ℕ) → ℕ
-writeOf = writeFrom 0
+abbrev pub rowWriteOf : List Field → (old v : ℕ) → ℕ
+rowWriteOf = writeFrom 0
 
 -- what a read of the word m shows
-abbrev pub readOf : List Field → ℕ → ℕ
-readOf = readFrom 0
+abbrev pub rowReadOf : List Field → ℕ → ℕ
+rowReadOf = readFrom 0
 
 -- the register can hold the word m: each field holds one of its values
-abbrev pub legalOf : List Field → ℕ → Bool
-legalOf = legalFrom 0
+abbrev pub rowLegalOf : List Field → ℕ → Bool
+rowLegalOf = legalFrom 0
 
 -- a field and the bit that it starts at
 pub data Place : Type 0 where
@@ -95,40 +95,7 @@ unnamed (suc n) fs = Fixed (suc n) 0 ∷ fs
 -- a row from its named fields
 abbrev pub rowFrom : ℕ → List Place → List Field
 rowFrom k [] = unnamed (64 - k) []
-rowFrom k (At lo f ∷ ps) = unnamed (lo - k) (f ∷ rowFrom (lo + widthOf f) ps)
+rowFrom k (At lo f ∷ ps) = unnamed (lo - k) (f ∷ rowFrom (lo + fieldWidthOf f) ps)
 
 abbrev pub row : List Place → List Field
 row = rowFrom 0
-
-abbrev pub bitsOf : List Field → ℕ
-bitsOf [] = 0
-bitsOf (f ∷ fs) = widthOf f + bitsOf fs
-
--- a fixed value fits its field
-abbrev pub fits : Field → Bool
-fits (Fixed n k) = ltb k (2 ^ n)
-fits (Covered n k) = ltb k (2 ^ n)
-fits (Any n) = true
-fits (Only n ok) = true
-fits (Hidden n ok) = true
-
-abbrev pub allFit : List Field → Bool
-allFit [] = true
-allFit (f ∷ fs) = fits f && allFit fs
-
--- a row is well made: its fields fit, and are 64 bits together, so that none of them overlap
-abbrev pub wellMade : List Field → Bool
-wellMade fs = allFit fs && eqb (bitsOf fs) 64
-
--- a field that a write reaches and a read shows
-abbrev pub seen : Field → Bool
-seen (Fixed n k) = true
-seen (Covered n k) = false
-seen (Any n) = true
-seen (Only n ok) = true
-seen (Hidden n ok) = false
-
--- nothing is hidden
-abbrev pub allSeen : List Field → Bool
-allSeen [] = true
-allSeen (f ∷ fs) = seen f && allSeen fs

@@ -11,25 +11,25 @@ use lib.Dec.{eqb, ltb}
 use lib.ListN.{length, replicate, length-set}
 use lib.Seq.{getD-set-same}
 use borrow.Author.Tests.{eq-eqb, eqb-true}
-use Rattle.word.specs.Choice.{Table, _⇒_¦_, otherwise, pick, look, every}
-use Rattle.word.specs.Row.{Fixed, Any, writeOf, legalOf, allSeen}
+use Rattle.word.specs.Choice.{Table, _⇒_¦_, otherwise, pick, look}
+use Rattle.word.specs.Row.{Fixed, Any, rowWriteOf, rowLegalOf}
 use Rattle.word.proofs.Bools.{both}
-use Rattle.word.proofs.Rows.{left, kept}
-use Rattle.word.proofs.Tables.{checked}
+use Rattle.word.proofs.Rows.{allSeen, left, kept}
+use Rattle.word.proofs.Tables.{every, checked}
 use Rattle.isa.specs.declared.Mode.{Mode}
 use Rattle.isa.specs.declared.Mode.the-variants.{User, Supervisor, Machine}
 use Rattle.status.specs.Fields.{mstatus}
 use Rattle.status.specs.Mode.{modeOf, numberOf}
-use Rattle.csr.specs.Row.{fours, envcfg, satp, medeleg, mseccfg, rowOf, isView}
+use Rattle.csr.specs.Row.{fours, envcfg, satp, medeleg, mseccfg, rowOf}
 use Rattle.csr.specs.declared.Csr.{Csr}
 use Rattle.csr.specs.declared.Csr.the-variants.{Ssp, Sstatus, Stvec, Senvcfg, Sscratch, Sepc, Scause, Stval, Satp, Mstatus, Medeleg, Mtvec, Menvcfg}
 use Rattle.csr.specs.declared.Csr.the-variants.{Mscratch, Mepc, Mcause, Mtval, Mseccfg}
-use Rattle.csr.proofs.Made.{all-fit, all-seen, sixty-four, alike}
+use Rattle.csr.proofs.Made.{isView, all-fit, all-seen, sixty-four, alike}
 use Rattle.rights.specs.Enable.{sseOf, padOf}
 use Rattle.regime.specs.Legal.{isMode}
 use Rattle.crossing.specs.Route.{toS, delegatedOf}
 use Rattle.crossing.proofs.Crossed.{enter-m-legal, enter-s-legal, leave-m-legal, leave-s-legal}
-use Rattle.words.specs.Words.{_of_, _but_≔_, slotOf, flagOf, expected, COUNT, PC, MODE, ELP, SSP, STVEC, SENVCFG, SEPC, SCAUSE, STVAL, SATP}
+use Rattle.words.specs.Words.{_of_, _but_≔_, csrSlotOf, flagOf, expected, COUNT, PC, MODE, ELP, SSP, STVEC, SENVCFG, SEPC, SCAUSE, STVAL, SATP}
 use Rattle.words.specs.Words.{MSTATUS, MEDELEG, MTVEC, MENVCFG, MEPC, MCAUSE, MTVAL, MSECCFG}
 use Rattle.words.specs.Access.{writtenOf, csrWriteOf}
 use Rattle.words.specs.Legal.{holds, held, wordsLegal}
@@ -39,9 +39,9 @@ use Rattle.words.specs.Return.{backIn, mretOf, sretOf}
 -- refusal 1's test of each word
 abbrev tests : Table (ℕ → Bool)
 tests =
-    PC ⇒ (λ m. eqb (m % 4) 0) ¦ MODE ⇒ isMode ¦ ELP ⇒ (λ m. ltb m 2) ¦ SSP ⇒ (λ m. eqb (m % 8) 0) ¦ STVEC ⇒ legalOf fours
-    ¦ SENVCFG ⇒ legalOf envcfg ¦ SEPC ⇒ legalOf fours ¦ SATP ⇒ legalOf satp ¦ MSTATUS ⇒ legalOf mstatus ¦ MEDELEG ⇒ legalOf medeleg
-    ¦ MTVEC ⇒ legalOf fours ¦ MENVCFG ⇒ legalOf envcfg ¦ MEPC ⇒ legalOf fours ¦ MSECCFG ⇒ legalOf mseccfg ¦ otherwise (λ m. true)
+    PC ⇒ (λ m. eqb (m % 4) 0) ¦ MODE ⇒ isMode ¦ ELP ⇒ (λ m. ltb m 2) ¦ SSP ⇒ (λ m. eqb (m % 8) 0) ¦ STVEC ⇒ rowLegalOf fours
+    ¦ SENVCFG ⇒ rowLegalOf envcfg ¦ SEPC ⇒ rowLegalOf fours ¦ SATP ⇒ rowLegalOf satp ¦ MSTATUS ⇒ rowLegalOf mstatus ¦ MEDELEG ⇒ rowLegalOf medeleg
+    ¦ MTVEC ⇒ rowLegalOf fours ¦ MENVCFG ⇒ rowLegalOf envcfg ¦ MEPC ⇒ rowLegalOf fours ¦ MSECCFG ⇒ rowLegalOf mseccfg ¦ otherwise (λ m. true)
 
 -- word k can be m
 abbrev pub fits : (k m : ℕ) → Bool
@@ -88,7 +88,7 @@ pub put : (k v : ℕ) {w : List ℕ} → fits k v ≡ true → Lawful w → Lawf
 put k v {w} t l = record { size = rw length-set (l .size); fit = stored fits w k v t (l .fit) }
 
 -- pc and ssp, as their rows have them
-low-row : (n k m : ℕ) → legalOf (Fixed n 0 ∷ Any k ∷ []) m ≡ eqb (m % 2 ^ n) 0
+low-row : (n k m : ℕ) → rowLegalOf (Fixed n 0 ∷ Any k ∷ []) m ≡ eqb (m % 2 ^ n) 0
 low-row n k m = rw (div-one, and-true (eqb (m % 2 ^ n) 0))
 
 pub pc-four : (w : List ℕ) → Lawful w → PC of w % 4 ≡ 0
@@ -99,10 +99,10 @@ ssp-eight w l = eqb-true (SSP of w % 8) 0 (l .fit SSP)
 
 -- where a CSR's word stands, that it is the CSR's row that it has to fit, and that a write of menvcfg leaves menvcfg's row
 pub record Placed (n : Csr) : Type 0 where
-  pub behind : 3 ≤ slotOf n
-  pub small : slotOf n < COUNT
-  pub row : (m : ℕ) → holds n m ≡ fits (slotOf n) m
-  pub own : MENVCFG ≡ slotOf n → (a b : Bool) → rowOf n a ≡ rowOf n b
+  pub behind : 3 ≤ csrSlotOf n
+  pub small : csrSlotOf n < COUNT
+  pub row : (m : ℕ) → holds n m ≡ fits (csrSlotOf n) m
+  pub own : MENVCFG ≡ csrSlotOf n → (a b : Bool) → rowOf n a ≡ rowOf n b
 
 pub placed : (n : Csr) → Placed n
 placed Ssp = record { behind = omega arith; small = omega arith; row = low-row 3 61; own = λ e a b. refl }
@@ -125,18 +125,18 @@ placed Mtval = record { behind = omega arith; small = omega arith; row = λ m. r
 placed Mseccfg = record { behind = omega arith; small = omega arith; row = λ m. refl; own = λ e a b. refl }
 
 -- the word that a write leaves is one that the CSR can hold
-written-fits : (n : Csr) (v : ℕ) (w : List ℕ) → Lawful w → fits (slotOf n) (writtenOf n v w) ≡ true
+written-fits : (n : Csr) (v : ℕ) (w : List ℕ) → Lawful w → fits (csrSlotOf n) (writtenOf n v w) ≡ true
 unfolding writtenOf
 written-fits n v w l =
     let sse : Bool = sseOf (MENVCFG of w) in
-    let old : ℕ = slotOf n of w in
-    let new : ℕ = writeOf (rowOf n sse) old v in
+    let old : ℕ = csrSlotOf n of w in
+    let new : ℕ = rowWriteOf (rowOf n sse) old v in
     sym (placed n .row new) ∙ sym (alike n sse new)
-    ∙ left (rowOf n sse) old v (all-fit n sse) (alike n sse old ∙ placed n .row old ∙ l .fit (slotOf n))
+    ∙ left (rowOf n sse) old v (all-fit n sse) (alike n sse old ∙ placed n .row old ∙ l .fit (csrSlotOf n))
 
 -- every CSR write, of any value
 pub write-lawful : (n : Csr) (v : ℕ) (w : List ℕ) → Lawful w → Lawful (csrWriteOf n v w)
-write-lawful n v w l = put (slotOf n) (writtenOf n v w) (written-fits n v w l) l
+write-lawful n v w l = put (csrSlotOf n) (writtenOf n v w) (written-fits n v w l) l
 
 -- a trap
 module _ (w : List ℕ) (cause tval : ℕ) (l : Lawful w) where
@@ -172,7 +172,7 @@ pub flag-fits : (b : Bool) → fits ELP (flagOf b) ≡ true
 flag-fits true = refl
 flag-fits false = refl
 
-back-lawful : (w : List ℕ) (new : Mode) (saved : Bool) (m to : ℕ) → legalOf mstatus m ≡ true → legalOf fours to ≡ true → Lawful w
+back-lawful : (w : List ℕ) (new : Mode) (saved : Bool) (m to : ℕ) → rowLegalOf mstatus m ≡ true → rowLegalOf fours to ≡ true → Lawful w
     → Lawful (backIn w new saved m to)
 unfolding backIn
 back-lawful w new saved m to s t l =
@@ -202,12 +202,12 @@ sret-legal w e = legal-of (sretOf w) (sret-lawful w (lawful w e))
 
 -- where a write of CSR n reaches every field, a word m that it can hold is left by a write of m
 pub left-by-write : (n : Csr) (w : List ℕ) (m : ℕ) → length w ≡ COUNT → allSeen (rowOf n (sseOf (MENVCFG of w))) ≡ true
-    → m < 2 ^ 64 → holds n m ≡ true → slotOf n of csrWriteOf n m w ≡ m
+    → m < 2 ^ 64 → holds n m ≡ true → csrSlotOf n of csrWriteOf n m w ≡ m
 unfolding writtenOf
 left-by-write n w m size e lt t =
     let sse : Bool = sseOf (MENVCFG of w) in
-    getD-set-same w (slotOf n) (writtenOf n m w) 0 (rw size (placed n .small))
-    ∙ kept (rowOf n sse) (slotOf n of w) m e (rw (sixty-four n sse) lt) (alike n sse m ∙ t)
+    getD-set-same w (csrSlotOf n) (writtenOf n m w) 0 (rw size (placed n .small))
+    ∙ kept (rowOf n sse) (csrSlotOf n of w) m e (rw (sixty-four n sse) lt) (alike n sse m ∙ t)
 
 -- words in M whose menvcfg.SSE is 1, so that senvcfg.SSE is written too
 unfoldable ready : List ℕ
@@ -227,7 +227,7 @@ pub record Left (n : Csr) (m : ℕ) : Type 0 where
   pub lets : wordsLegal before ≡ true
   pub value : ℕ
   pub small : value < 2 ^ 64
-  pub after : slotOf n of csrWriteOf n value before ≡ m
+  pub after : csrSlotOf n of csrWriteOf n value before ≡ m
 
 -- refusal 1: the values that a CSR can hold are exactly those that a write could leave
 pub can-hold : (n : Csr) (m : ℕ) → isView n ≡ false → m < 2 ^ 64 → holds n m ≡ true → Left n m
@@ -240,4 +240,4 @@ can-hold n m e lt t = record {
 }
 
 pub no-other : (n : Csr) (m : ℕ) → Left n m → holds n m ≡ true
-no-other n m l = placed n .row m ∙ rw (l .after) at (write-lawful n (l .value) (l .before) (lawful (l .before) (l .lets)) .fit (slotOf n))
+no-other n m l = placed n .row m ∙ rw (l .after) at (write-lawful n (l .value) (l .before) (lawful (l .before) (l .lets)) .fit (csrSlotOf n))

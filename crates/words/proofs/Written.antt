@@ -11,8 +11,8 @@ use lib.Seq.{getD-set-same, getD-set-other}
 use borrow.Author.Tests.{eqb-true, eqb-false}
 use Rattle.isa.specs.declared.Mode.the-variants.{User}
 use Rattle.word.specs.Choice.{pick}
-use Rattle.word.specs.Row.{Field, writeOf, readOf, allSeen}
-use Rattle.word.proofs.Rows.{backOf, back, shown}
+use Rattle.word.specs.Row.{Field, rowWriteOf, rowReadOf}
+use Rattle.word.proofs.Rows.{allSeen, backOf, back, shown}
 use Rattle.status.specs.Mode.{modeOf}
 use Rattle.csr.specs.Row.{rowOf}
 use Rattle.csr.specs.declared.Csr.{Csr}
@@ -22,64 +22,64 @@ use Rattle.rights.specs.Enable.{sseOf, permitsOf}
 use Rattle.rights.specs.Reach.{reachOf}
 use Rattle.rights.specs.declared.reach.Reached.the-variants.{To, Illegal}
 use Rattle.rights.proofs.Users.{user-ssp}
-use Rattle.regime.specs.Access.{reachedOf}
+use Rattle.regime.specs.Access.{csrNamedOf}
 use Rattle.regime.specs.Regime.{controlOf}
-use Rattle.words.specs.Words.{_of_, _but_≔_, slotOf, COUNT, MODE, SSP, SENVCFG, MENVCFG}
+use Rattle.words.specs.Words.{_of_, _but_≔_, csrSlotOf, COUNT, MODE, SSP, SENVCFG, MENVCFG}
 use Rattle.words.specs.Access.{shownOf, writtenOf, csrWriteOf}
 use Rattle.words.specs.Legal.{holds}
 use Rattle.words.specs.Setting.{settingOf}
 use Rattle.words.proofs.Lawful.{placed, left-by-write}
 
 -- a write does not change the row of its own CSR: menvcfg's is always the same, and no other changes menvcfg.SSE
-row-stays : (n : Csr) (v : ℕ) (w : List ℕ) → rowOf n (sseOf (MENVCFG of (w but slotOf n ≔ v))) ≡ rowOf n (sseOf (MENVCFG of w))
-row-stays n v w = at (eqb MENVCFG (slotOf n)) refl
+row-stays : (n : Csr) (v : ℕ) (w : List ℕ) → rowOf n (sseOf (MENVCFG of (w but csrSlotOf n ≔ v))) ≡ rowOf n (sseOf (MENVCFG of w))
+row-stays n v w = at (eqb MENVCFG (csrSlotOf n)) refl
   where
-    at : (b : Bool) → eqb MENVCFG (slotOf n) ≡ b → rowOf n (sseOf (MENVCFG of (w but slotOf n ≔ v))) ≡ rowOf n (sseOf (MENVCFG of w))
-    at true e = placed n .own (eqb-true MENVCFG (slotOf n) e) _ _
-    at false e = ap (λ (m : ℕ). rowOf n (sseOf m)) (getD-set-other w (slotOf n) MENVCFG v 0 (eqb-false MENVCFG (slotOf n) e))
+    at : (b : Bool) → eqb MENVCFG (csrSlotOf n) ≡ b → rowOf n (sseOf (MENVCFG of (w but csrSlotOf n ≔ v))) ≡ rowOf n (sseOf (MENVCFG of w))
+    at true e = placed n .own (eqb-true MENVCFG (csrSlotOf n) e) _ _
+    at false e = ap (λ (m : ℕ). rowOf n (sseOf m)) (getD-set-other w (csrSlotOf n) MENVCFG v 0 (eqb-false MENVCFG (csrSlotOf n) e))
 
 module _ (n : Csr) (v : ℕ) (w : List ℕ) (size : length w ≡ COUNT) where
   abbrev row : List Field
   row = rowOf n (sseOf (MENVCFG of w))
 
   -- a read after a write of v shows what each field took
-  pub read-back : shownOf n (csrWriteOf n v w) ≡ backOf row (slotOf n of w) v
+  pub read-back : shownOf n (csrWriteOf n v w) ≡ backOf row (csrSlotOf n of w) v
   unfolding writtenOf shownOf
   read-back =
-      let old : ℕ = slotOf n of w in
-      let new : ℕ = writeOf row old v in
-      rw (row-stays n new w, getD-set-same w (slotOf n) new 0 (rw size (placed n .small))) (back row old v (all-fit n (sseOf (MENVCFG of w))))
+      let old : ℕ = csrSlotOf n of w in
+      let new : ℕ = rowWriteOf row old v in
+      rw (row-stays n new w, getD-set-same w (csrSlotOf n) new 0 (rw size (placed n .small))) (back row old v (all-fit n (sseOf (MENVCFG of w))))
 
   -- a value that the CSR can hold is read back as it was written, where nothing of the CSR is hidden
   pub same-back : allSeen row ≡ true → v < 2 ^ 64 → holds n v ≡ true → shownOf n (csrWriteOf n v w) ≡ v
   unfolding shownOf
   same-back e l t =
       let sse : Bool = sseOf (MENVCFG of w) in
-      ap (λ (fs : List Field). readOf fs (slotOf n of csrWriteOf n v w)) (row-stays n (writtenOf n v w) w)
-      ∙ ap (λ (m : ℕ). readOf row m) (left-by-write n w v size e l t)
+      ap (λ (fs : List Field). rowReadOf fs (csrSlotOf n of csrWriteOf n v w)) (row-stays n (writtenOf n v w) w)
+      ∙ ap (λ (m : ℕ). rowReadOf row m) (left-by-write n w v size e l t)
       ∙ shown row v e (rw (sixty-four n sse) l) (alike n sse v ∙ t)
 
 -- a write of one CSR leaves every other word as it was; sstatus and mstatus have one word
-pub others-stay : (j : ℕ) (n : Csr) (v : ℕ) (w : List ℕ) → (j ≡ slotOf n → ⊥) → j of csrWriteOf n v w ≡ j of w
-others-stay j n v w d = getD-set-other w (slotOf n) j (writtenOf n v w) 0 d
+pub others-stay : (j : ℕ) (n : Csr) (v : ℕ) (w : List ℕ) → (j ≡ csrSlotOf n → ⊥) → j of csrWriteOf n v w ≡ j of w
+others-stay j n v w d = getD-set-other w (csrSlotOf n) j (writtenOf n v w) 0 d
 
 -- in U no address names a CSR but ssp's
-pub user-reaches : (menvcfg senvcfg address : ℕ) (n : Csr) → reachedOf 0 menvcfg senvcfg address ≡ To n → n ≡ Ssp
-unfolding reachedOf modeOf
+pub user-reaches : (menvcfg senvcfg address : ℕ) (n : Csr) → csrNamedOf 0 menvcfg senvcfg address ≡ To n → n ≡ Ssp
+unfolding csrNamedOf modeOf
 user-reaches menvcfg senvcfg address n e = user-ssp (permitsOf User menvcfg senvcfg) address n e
 
 -- so a CSR write that U may make changes ssp and nothing else
-pub user-write : (menvcfg senvcfg address : ℕ) (n : Csr) (v : ℕ) (w : List ℕ) → reachedOf 0 menvcfg senvcfg address ≡ To n
+pub user-write : (menvcfg senvcfg address : ℕ) (n : Csr) (v : ℕ) (w : List ℕ) → csrNamedOf 0 menvcfg senvcfg address ≡ To n
     → csrWriteOf n v w ≡ (w but SSP ≔ writtenOf Ssp v w)
 user-write menvcfg senvcfg address n v w e = rw (user-reaches menvcfg senvcfg address n e)
 
 -- and U reaches ssp exactly where both SSE are 1
-pub user-pointer : (menvcfg senvcfg : ℕ) → reachedOf 0 menvcfg senvcfg 0x011 ≡ pick (sseOf menvcfg && sseOf senvcfg) (To Ssp) Illegal
-unfolding reachedOf modeOf reachOf
+pub user-pointer : (menvcfg senvcfg : ℕ) → csrNamedOf 0 menvcfg senvcfg 0x011 ≡ pick (sseOf menvcfg && sseOf senvcfg) (To Ssp) Illegal
+unfolding csrNamedOf modeOf reachOf
 user-pointer menvcfg senvcfg = refl
 
 -- what a step's CSR instruction asks, with the setting of the step, is this
 pub reached-by-a-step : (w : List ℕ) (address : ℕ)
-    → reachOf (settingOf w .control .mode) (settingOf w .permitted) address ≡ reachedOf (MODE of w) (MENVCFG of w) (SENVCFG of w) address
-unfolding reachedOf settingOf controlOf
+    → reachOf (settingOf w .control .mode) (settingOf w .permitted) address ≡ csrNamedOf (MODE of w) (MENVCFG of w) (SENVCFG of w) address
+unfolding csrNamedOf settingOf controlOf
 reached-by-a-step w address = refl

@@ -2,19 +2,19 @@
 use mathlib.Core.List.{List}
 use Prim.Native.Nat.{ℕ}
 use Rattle.csr.specs.declared.Csr.{Csr}
-use Rattle.word.specs.Row.{writeOf, readOf}
+use Rattle.word.specs.Row.{rowWriteOf, rowReadOf}
 use Rattle.csr.specs.Row.{rowOf}
 use Rattle.rights.specs.Enable.{sseOf}
-use Rattle.words.specs.Words.{_of_, _but_≔_, slotOf, MENVCFG}
+use Rattle.words.specs.Words.{_of_, _but_≔_, csrSlotOf, MENVCFG}
 
 -- what a read of CSR n shows
 unfoldable pub shownOf : Csr → (w : List ℕ) → ℕ
-shownOf n w = readOf (rowOf n (sseOf (MENVCFG of w))) (slotOf n of w)
+shownOf n w = rowReadOf (rowOf n (sseOf (MENVCFG of w))) (csrSlotOf n of w)
 
 -- the word that a write of v to CSR n leaves
 unfoldable pub writtenOf : Csr → (v : ℕ) → (w : List ℕ) → ℕ
-writtenOf n v w = writeOf (rowOf n (sseOf (MENVCFG of w))) (slotOf n of w) v
+writtenOf n v w = rowWriteOf (rowOf n (sseOf (MENVCFG of w))) (csrSlotOf n of w) v
 
 -- the words after it
 abbrev pub csrWriteOf : Csr → (v : ℕ) → (w : List ℕ) → List ℕ
-csrWriteOf n v w = w but slotOf n ≔ writtenOf n v w
+csrWriteOf n v w = w but csrSlotOf n ≔ writtenOf n v w

@@ -4,20 +4,20 @@ use mathlib.Core.List.{List}
 use Prim.Native.Nat.{ℕ, _%_}
 use lib.Dec.{eqb, ltb}
 use lib.ListN.{length}
-use Rattle.word.specs.Row.{legalOf}
+use Rattle.word.specs.Row.{rowLegalOf}
 use Rattle.regime.specs.Legal.{isMode}
 use Rattle.csr.specs.Row.{rowOf}
 use Rattle.csr.specs.declared.Csr.{Csr}
 use Rattle.csr.specs.declared.Csr.the-variants.{Stvec, Senvcfg, Sepc, Satp, Mstatus, Medeleg, Mtvec, Menvcfg, Mepc, Mseccfg}
-use Rattle.words.specs.Words.{_of_, slotOf, COUNT, PC, MODE, ELP, SSP}
+use Rattle.words.specs.Words.{_of_, csrSlotOf, COUNT, PC, MODE, ELP, SSP}
 
 -- CSR n can hold the word m: some write leaves it (while menvcfg.SSE is 1, which writes every field)
 abbrev pub holds : Csr → ℕ → Bool
-holds n m = legalOf (rowOf n true) m
+holds n m = rowLegalOf (rowOf n true) m
 
 -- its word in w is one
 abbrev pub held : (w : List ℕ) → Csr → Bool
-held w n = holds n (slotOf n of w)
+held w n = holds n (csrSlotOf n of w)
 
 -- scratch, cause and tval hold any
 abbrev pub csrsLegal : (w : List ℕ) → Bool

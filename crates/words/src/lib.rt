@@ -4,7 +4,7 @@ use csr::Csr;
 ghost use mathlib.Core.Path.{_≡_};
 ghost use Prim.Native.Nat.{_<_};
 ghost use lib.ListN.{length};
-ghost use Rattle.words.specs.Words.{COUNT, slotOf, flagOf};
+ghost use Rattle.words.specs.Words.{COUNT, csrSlotOf, flagOf};
 
 pub mod access;
 pub mod legal;
@@ -66,7 +66,7 @@ pub fn flag(b: bool) -> u64
 
 // Where the word of a CSR stands.
 pub fn slot(n: Csr) -> usize
-    ensures { λ r. ⌜ (r ≡ slotOf n) × (r < COUNT) ⌝ }
+    ensures { λ r. ⌜ (r ≡ csrSlotOf n) × (r < COUNT) ⌝ }
 {
     match n {
         Csr::Ssp => SSP,

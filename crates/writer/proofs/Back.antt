@@ -5,7 +5,7 @@ use Prim.Native.Nat.{ℕ, _+_, _*_, _%_, _^_, _<_}
 use native.Mathlib.Omega.{arith}
 use Rattle.word.specs.Field.{bits, opcode, fieldsOf}
 use Rattle.word.specs.Immediate.{immI, immS, immB}
-use Rattle.base.specs.Base.{jalrOf, jalrs, branchOf, branches, loadOf, loads, storeOf, stores, countOf, counts, countWordOf, countWords, shiftOf}
+use Rattle.base.specs.Base.{decodeJalrOf, jalrs, decodeBranchOf, branches, decodeLoadOf, loads, decodeStoreOf, stores, countOf, counts, countWordOf, countWords, shiftOf}
 use Rattle.base.specs.Base.{shifts, opImmOf, opImms, wordShiftOf, wordShifts, opImm32Of, opImm32s, extensionOf, extensions, opOf, ops, extension32Of}
 use Rattle.base.specs.Base.{extension32s, op32Of, op32s, miscMemOf, miscMems, functs, shiftKey, countKey}
 use Rattle.isa.specs.declared.Instruction.{Instruction}
@@ -29,15 +29,15 @@ fence-parts :
 fence-parts q p s y x hq hp hs e f = omega arith
 
 module _ (w : ℕ) (h : w < 2 ^ 32) where
-  pub jalr-back : 0b1100111 ≡ opcode w → Back w (jalrOf (fieldsOf w) (immI w))
-  unfolding jalrOf packOf
+  pub jalr-back : 0b1100111 ≡ opcode w → Back w (decodeJalrOf (fieldsOf w) (immI w))
+  unfolding decodeJalrOf packOf
   jalr-back o =
       looked (Back w) (bits w 14 12) (jalrs (fieldsOf w) (immI w))
       ((λ e n. imm-back w h 0b1100111 0 o (sym e) refl) and
       none w)
 
-  pub branch-back : 0b1100011 ≡ opcode w → Back w (branchOf (fieldsOf w) (immB w))
-  unfolding branchOf packOf
+  pub branch-back : 0b1100011 ≡ opcode w → Back w (decodeBranchOf (fieldsOf w) (immB w))
+  unfolding decodeBranchOf packOf
   branch-back o =
       looked (Back w) (bits w 14 12) (branches (fieldsOf w) (immB w))
       ((λ e n. b-back w h 0b1100011 0b000 o (sym e)) and
@@ -48,8 +48,8 @@ module _ (w : ℕ) (h : w < 2 ^ 32) where
       (λ e n. b-back w h 0b1100011 0b111 o (sym e)) and
       none w)
 
-  pub load-back : 0b0000011 ≡ opcode w → Back w (loadOf (fieldsOf w) (immI w))
-  unfolding loadOf packOf
+  pub load-back : 0b0000011 ≡ opcode w → Back w (decodeLoadOf (fieldsOf w) (immI w))
+  unfolding decodeLoadOf packOf
   load-back o =
       looked (Back w) (bits w 14 12) (loads (fieldsOf w) (immI w))
       ((λ e n. imm-back w h 0b0000011 0b000 o (sym e) refl) and
@@ -61,8 +61,8 @@ module _ (w : ℕ) (h : w < 2 ^ 32) where
       (λ e n. imm-back w h 0b0000011 0b110 o (sym e) refl) and
       none w)
 
-  pub store-back : 0b0100011 ≡ opcode w → Back w (storeOf (fieldsOf w) (immS w))
-  unfolding storeOf packOf
+  pub store-back : 0b0100011 ≡ opcode w → Back w (decodeStoreOf (fieldsOf w) (immS w))
+  unfolding decodeStoreOf packOf
   store-back o =
       looked (Back w) (bits w 14 12) (stores (fieldsOf w) (immS w))
       ((λ e n. s-back w h 0b0100011 0b000 o (sym e)) and

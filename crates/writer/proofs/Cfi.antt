@@ -11,8 +11,8 @@ use lib.Dec.{eqb}
 use lib.Pow.{split, shr-shr}
 use Rattle.word.specs.Choice.{look}
 use Rattle.word.specs.Field.{bits, opcode, fieldsOf}
-use Rattle.decoder.specs.Cfi.{swapOf, swaps, swapKey, aq, rl, mopOf, mopRKey, mopRs, mopRrKey, mopRrs, zimopOf, zimops, reads}
-use Rattle.numbers.specs.Numbers.{flagOf}
+use Rattle.decoder.specs.Cfi.{swapOf, swaps, amoKey, aq, rl, mopOf, mopRKey, mopRs, mopRrKey, mopRrs, zimopOf, zimops, reads}
+use Rattle.numbers.specs.Numbers.{orderingBit}
 use Rattle.writer.specs.Format.{wordI}
 use Rattle.writer.specs.Pack.{packOf, systemPackOf, swapBits, mopRBits, mopRrBits}
 use Rattle.writer.proofs.Back.{Back, none}
@@ -20,10 +20,10 @@ use Rattle.word.proofs.Tables.{looked, _and_}
 use Rattle.writer.proofs.Formats.{join, i-back}
 
 -- a bit that became a test becomes the bit again
-flag-of : (x : ℕ) → x < 2 → flagOf (eqb x 1) ≡ x
+flag-of : (x : ℕ) → x < 2 → orderingBit (eqb x 1) ≡ x
 flag-of x h = go (eqb x 1) refl
   where
-    go : (t : Bool) → eqb x 1 ≡ t → flagOf t ≡ x
+    go : (t : Bool) → eqb x 1 ≡ t → orderingBit t ≡ x
     go true e = sym (eqb-true x 1 e)
     go false e = let n : (x ≡ 1 → ⊥) = eqb-false x 1 e in omega arith
 
@@ -106,9 +106,9 @@ ssp-word w d h e = omega arith
 
 module _ (w : ℕ) (h : w < 2 ^ 32) where
   swap-row :
-      (k key : ℕ) → 0b0101111 ≡ opcode w → swapKey (fieldsOf w) ≡ key → k % 2 ^ 3 ≡ key % 8 → k / 2 ^ 3 ≡ key / 8 * 2 ^ 7
+      (k key : ℕ) → 0b0101111 ≡ opcode w → amoKey (fieldsOf w) ≡ key → k % 2 ^ 3 ≡ key % 8 → k / 2 ^ 3 ≡ key / 8 * 2 ^ 7
       → wordI 0b0101111 k (bits w 11 7) (bits w 19 15)
-      (swapBits (flagOf (aq (fieldsOf w))) (flagOf (rl (fieldsOf w))) (bits w 24 20)) ≡ w
+      (swapBits (orderingBit (aq (fieldsOf w))) (orderingBit (rl (fieldsOf w))) (bits w 24 20)) ≡ w
   swap-row k key o e e3 e7 =
       let a : bits w 14 12 < 8 = omega arith in
       let f7 : bits w 31 25 / 4 ≡ key / 8 = omega arith in
@@ -120,7 +120,7 @@ module _ (w : ℕ) (h : w < 2 ^ 32) where
   pub swap-back : 0b0101111 ≡ opcode w → Back w (swapOf (fieldsOf w))
   unfolding swapOf packOf systemPackOf
   swap-back o =
-      looked (Back w) (swapKey (fieldsOf w)) (swaps (fieldsOf w))
+      looked (Back w) (amoKey (fieldsOf w)) (swaps (fieldsOf w))
       ((λ e n. swap-row 0b0100100_00000_010 0b01001_010 o e refl refl) and
       (λ e n. swap-row 0b0100100_00000_011 0b01001_011 o e refl refl) and
       none w)

@@ -4,7 +4,7 @@ use mathlib.Core.Path.{_≡_, sym}
 use Prim.Native.Nat.{ℕ, _+_, _%_, _^_, _<_}
 use native.Mathlib.Omega.{arith}
 use Rattle.word.specs.Field.{bits, opcode, fieldsOf}
-use Rattle.decoder.specs.System.{csrOf, csrs, systemOf, systems}
+use Rattle.decoder.specs.System.{decodeCsrOf, csrs, systemOf, systems}
 use Rattle.decoder.specs.Decode.{decodeOf, opcodes}
 use Rattle.writer.specs.Pack.{packOf, systemPackOf}
 use Rattle.word.proofs.Tables.{looked, _and_}
@@ -17,8 +17,8 @@ number : (x : ℕ) → x < 2 ^ 12 → (0 + x % 2 ^ 12) % 2 ^ 12 ≡ x
 number x h = omega arith
 
 module _ (w : ℕ) (h : w < 2 ^ 32) where
-  csr-back : 0b1110011 ≡ opcode w → Back w (csrOf w (fieldsOf w))
-  unfolding csrOf packOf systemPackOf
+  csr-back : 0b1110011 ≡ opcode w → Back w (decodeCsrOf w (fieldsOf w))
+  unfolding decodeCsrOf packOf systemPackOf
   csr-back o =
       looked (Back w) (bits w 14 12) (csrs w (fieldsOf w))
       ((λ e n. i-back w h 0b1110011 0b001 _ o (sym e) (number (bits w 31 20) (omega arith))) and

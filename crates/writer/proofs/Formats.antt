@@ -10,7 +10,7 @@ use Rattle.word.specs.Field.{bits, opcode, fieldsOf}
 use Rattle.word.specs.Immediate.{immI, immS, immB, immU, immJ}
 use Rattle.word.proofs.Extension.{extend-keeps}
 use Rattle.base.specs.Base.{functs, shiftKey, shiftAmount, countKey}
-use Rattle.writer.specs.Format.{wordOf, wordI, wordS, wordB, wordU, wordJ}
+use Rattle.writer.specs.Format.{wordFrom, wordI, wordS, wordB, wordU, wordJ}
 
 -- field by field, what is above the field as a number of its own: one sum over all of them is more than omega takes
 sum-up :
@@ -21,7 +21,7 @@ sum-up w o p d q f r a s n h1 h2 h3 h4 h5 = omega arith
 -- five parts that are a word's are that word
 pub whole :
     (w op d f a n : ℕ) → w < 2 ^ 32 → op % 2 ^ 7 ≡ opcode w → d % 2 ^ 5 ≡ bits w 11 7 → f % 2 ^ 3 ≡ bits w 14 12
-    → a % 2 ^ 5 ≡ bits w 19 15 → n % 2 ^ 12 ≡ bits w 31 20 → wordOf op d f a n ≡ w
+    → a % 2 ^ 5 ≡ bits w 19 15 → n % 2 ^ 12 ≡ bits w 31 20 → wordFrom op d f a n ≡ w
 whole w op d f a n h eo ed ef ea en =
     rw (eo, ed, ef, ea, en)
     (sum-up w (w % 2 ^ 7) (w / 2 ^ 7) (w / 2 ^ 7 % 2 ^ 5) (w / 2 ^ 12) (w / 2 ^ 12 % 2 ^ 3) (w / 2 ^ 15) (w / 2 ^ 15 % 2 ^ 5)

@@ -10,7 +10,7 @@ use Rattle.word.specs.Sign.{signExtendOf}
 use Rattle.word.proofs.Either.{either}
 use Rattle.word.proofs.Extension.{sign-bit}
 use Rattle.word.proofs.Tables.{looked, _and_}
-use Rattle.base.specs.Base.{branchOf, branches}
+use Rattle.base.specs.Base.{decodeBranchOf, branches}
 use Rattle.decoder.specs.Decode.{decodeOf}
 use Rattle.isa.specs.declared.Condition.{Condition}
 use Rattle.isa.specs.declared.Condition.the-variants.{Equal}
@@ -81,9 +81,9 @@ module _ (w : ℕ) where
   branch-distance i = (i ≡ Illegal → ⊥) → distanceOf i ≡ immB w
 
   read-branch : opcode w ≡ 0b1100011 → branch-distance (decodeOf w)
-  unfolding decodeOf branchOf branch-distance
+  unfolding decodeOf decodeBranchOf branch-distance
   read-branch e =
-      let d : branch-distance (branchOf (fieldsOf w) (immB w)) =
+      let d : branch-distance (decodeBranchOf (fieldsOf w) (immB w)) =
       looked branch-distance (bits w 14 12) (branches (fieldsOf w) (immB w))
       ((λ k n. refl) and (λ k n. refl) and (λ k n. refl) and (λ k n. refl) and (λ k n. refl) and (λ k n. refl) and
       (λ n. absurd (n refl))) in
@@ -135,7 +135,7 @@ jump-legal d o z = let e : _≡_ {A = ℕ} 3 0 = ap (λ (i : Instruction). numbe
 
 -- −4,096 and 4,094
 pub farthest-branches : Reads 0x80000063 (Branch Equal 0 0 (2 ^ 64 - 4096)) × Reads 0x7E000FE3 (Branch Equal 0 0 4094)
-unfolding decodeOf branchOf
+unfolding decodeOf decodeBranchOf
 farthest-branches = ((omega arith, refl, branch-legal Equal 0 0 _), (omega arith, refl, branch-legal Equal 0 0 _))
 
 -- −1,048,576 and 1,048,574

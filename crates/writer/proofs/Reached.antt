@@ -11,7 +11,7 @@ use Rattle.word.specs.Sign.{signExtendOf}
 use Rattle.word.proofs.Either.{either}
 use Rattle.word.proofs.Extension.{extend-low}
 use Rattle.word.proofs.Tables.{hit}
-use Rattle.base.specs.Base.{branchOf, branches}
+use Rattle.base.specs.Base.{decodeBranchOf, branches}
 use Rattle.decoder.specs.Decode.{decodeOf}
 use Rattle.isa.specs.declared.Condition.{Condition}
 use Rattle.isa.specs.declared.Condition.the-variants.{Equal, NotEqual, Less, NotLess, LessUnsigned, NotLessUnsigned}
@@ -125,7 +125,7 @@ module _ (w d n : ℕ) (hd : d < 2 ^ 5) (e7 : w / 2 ^ 7 % 2 ^ 5 ≡ d) (e20 : w 
   bits-24-20 : bits w 24 20 ≡ n % 2 ^ 5
   bits-24-20 = rw e20
 
-decode-branch : (w : ℕ) → opcode w ≡ 0b1100011 → decodeOf w ≡ branchOf (fieldsOf w) (immB w)
+decode-branch : (w : ℕ) → opcode w ≡ 0b1100011 → decodeOf w ≡ decodeBranchOf (fieldsOf w) (immB w)
 unfolding decodeOf
 decode-branch w e = rw e
 
@@ -134,8 +134,8 @@ same-branch c x y z a b o ea eb eo = rw (ea, eb, eo)
 
 branch-row :
     (c : Condition) (w a b o : ℕ) → bits w 14 12 ≡ conditionKey c → bits w 19 15 ≡ a → bits w 24 20 ≡ b → immB w ≡ o
-    → branchOf (fieldsOf w) (immB w) ≡ Branch c a b o
-unfolding branchOf
+    → decodeBranchOf (fieldsOf w) (immB w) ≡ Branch c a b o
+unfolding decodeBranchOf
 branch-row Equal w a b o e ea eb eo = sym (hit (branches (fieldsOf w) (immB w)) e) ∙ same-branch Equal _ _ _ a b o ea eb eo
 branch-row NotEqual w a b o e ea eb eo = sym (hit (branches (fieldsOf w) (immB w)) e) ∙ same-branch NotEqual _ _ _ a b o ea eb eo
 branch-row Less w a b o e ea eb eo = sym (hit (branches (fieldsOf w) (immB w)) e) ∙ same-branch Less _ _ _ a b o ea eb eo

@@ -1,11 +1,11 @@
 -- `base::branch` meets its contract: the rows of `branches`. Assumes nothing.
 use Rattle.word.proofs.Tables.{missed}
-use Rattle.base.specs.Base.{branchOf, branches}
+use Rattle.base.specs.Base.{decodeBranchOf, branches}
 use Rattle.base.proofs.branch.Statement.{statement}
 use Rattle.base.proofs.branch.Tie as tie
 
 pub branch-spec : {M : Type 1} → statement M
-unfolding branchOf
+unfolding decodeBranchOf
 branch-spec =
     tie.close
     (tie.spec

@@ -1,11 +1,11 @@
 -- `base::jalr` meets its contract: the rows of `jalrs`. Assumes nothing.
 use Rattle.word.proofs.Tables.{missed}
-use Rattle.base.specs.Base.{jalrOf, jalrs}
+use Rattle.base.specs.Base.{decodeJalrOf, jalrs}
 use Rattle.base.proofs.jalr.Statement.{statement}
 use Rattle.base.proofs.jalr.Tie as tie
 
 pub jalr-spec : {M : Type 1} → statement M
-unfolding jalrOf
+unfolding decodeJalrOf
 jalr-spec =
     tie.close
     (tie.spec

@@ -1,11 +1,11 @@
 -- `base::load` meets its contract: the rows of `loads`. Assumes nothing.
 use Rattle.word.proofs.Tables.{missed}
-use Rattle.base.specs.Base.{loadOf, loads}
+use Rattle.base.specs.Base.{decodeLoadOf, loads}
 use Rattle.base.proofs.load.Statement.{statement}
 use Rattle.base.proofs.load.Tie as tie
 
 pub load-spec : {M : Type 1} → statement M
-unfolding loadOf
+unfolding decodeLoadOf
 load-spec =
     tie.close
     (tie.spec

@@ -1,11 +1,11 @@
 -- `base::store` meets its contract: the rows of `stores`. Assumes nothing.
 use Rattle.word.proofs.Tables.{missed}
-use Rattle.base.specs.Base.{storeOf, stores}
+use Rattle.base.specs.Base.{decodeStoreOf, stores}
 use Rattle.base.proofs.store.Statement.{statement}
 use Rattle.base.proofs.store.Tie as tie
 
 pub store-spec : {M : Type 1} → statement M
-unfolding storeOf
+unfolding decodeStoreOf
 store-spec =
     tie.close
     (tie.spec

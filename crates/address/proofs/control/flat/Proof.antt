@@ -5,7 +5,7 @@ use Prim.Native.Nat.{ℕ}
 use borrow.Author.Tests.{ne-eqb}
 use Rattle.isa.specs.declared.Kind.the-variants.{Load}
 use Rattle.isa.specs.declared.Mode.{Mode}
-use Rattle.address.specs.Control.{modeOf, pmmOf, pagedOf, unmaskedOf, flatOf}
+use Rattle.address.specs.Control.{effectiveModeOf, pmmOf, pagedOf, unmaskedOf, flatOf}
 use Rattle.address.specs.declared.control.Control.{Control}
 use borrow.Author.Needs.{needs}
 use Rattle.address.proofs.control.flat.Statement.{statement}
@@ -20,7 +20,7 @@ or-false true = refl
 or-false false = refl
 
 -- m is the effective mode of loads
-module _ (c : Control) (m : Mode) (e : m ≡ modeOf c Load) where
+module _ (c : Control) (m : Mode) (e : m ≡ effectiveModeOf c Load) where
   translated : pagedOf m (c .sv39) ≡ true → false ≡ flatOf c
   unfolding flatOf
   translated p = rw (← e, p)

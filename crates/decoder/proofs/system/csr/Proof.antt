@@ -1,12 +1,12 @@
 -- `decoder::system::csr` meets its contract: the rows of `csrs`, and `zimop`. Assumes nothing.
 use borrow.Author.Needs.{needs}
 use Rattle.word.proofs.Tables.{hit, missed}
-use Rattle.decoder.specs.System.{csrOf, csrs}
+use Rattle.decoder.specs.System.{decodeCsrOf, csrs}
 use Rattle.decoder.proofs.system.csr.Statement.{statement}
 use Rattle.decoder.proofs.system.csr.Tie as tie
 
 pub csr-spec : {M : Type 1} → statement M
-unfolding csrOf
+unfolding decodeCsrOf
 csr-spec =
     tie.close
     (tie.spec

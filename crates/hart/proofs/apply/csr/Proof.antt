@@ -1,6 +1,6 @@
 -- `apply::csr` meets its contract. Assumes nothing.
 use mathlib.Core.Path.{refl, sym, ap, _∙_}
-use Rattle.words.specs.Words.{slotOf, PC}
+use Rattle.words.specs.Words.{csrSlotOf, PC}
 use Rattle.words.specs.Setting.{switches}
 use Rattle.words.proofs.Stored.{setting-kept}
 use Rattle.hart.specs.Step.{csrOf}
@@ -22,7 +22,7 @@ returns c =
         refl,
         λ z.
             setting-kept PC _ _ refl
-            ∙ setting-kept (slotOf n) _ w (ap switches (sym (c .before .slot .ensures .0)) ∙ sym (c .switched .ensures) ∙ z),
+            ∙ setting-kept (csrSlotOf n) _ w (ap switches (sym (c .before .slot .ensures .0)) ∙ sym (c .switched .ensures) ∙ z),
       ),
     )
 

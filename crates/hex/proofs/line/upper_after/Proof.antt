@@ -3,7 +3,7 @@ use mathlib.Core.Path.{sym, _∙_}
 use native.Mathlib.Omega.{arith}
 use borrow.Author.Tests.{eq-eqb, ne-eqb}
 use Rattle.word.proofs.Choices.{first, second}
-use Rattle.hex.specs.Line.{kindOf}
+use Rattle.hex.specs.Line.{recordTypeOf}
 use Rattle.hex.specs.Load.{upperAfter}
 use Rattle.hex.proofs.Good.{long, room-4}
 use Rattle.hex.proofs.line.upper_after.Statement.{statement}
@@ -18,7 +18,7 @@ returns : tie.Need-returns
 unfolding upperAfter
 returns c =
     let b = c .before .before in (
-      c .half .ensures .0 ∙ sym (first _ _ _ (eq-eqb (kindOf (b .before .before .args .line .now)) 4
+      c .half .ensures .0 ∙ sym (first _ _ _ (eq-eqb (recordTypeOf (b .before .before .args .line .now)) 4
           (sym (b .byte .ensures .0) ∙ c .before .if1 .taken))),
       c .half .ensures .1,
     )
@@ -28,7 +28,7 @@ unfolding upperAfter
 returns-2 c =
     let b = c .before in
     let s = b .before .before in
-    (sym (second _ _ _ (ne-eqb (kindOf (s .args .line .now)) 4 (λ e. c .if1 .left (b .byte .ensures .0 ∙ e)))), s .pre .2)
+    (sym (second _ _ _ (ne-eqb (recordTypeOf (s .args .line .now)) 4 (λ e. c .if1 .left (b .byte .ensures .0 ∙ e)))), s .pre .2)
 
 pub upper-after-spec : {M : Type 1} → statement M
 upper-after-spec =

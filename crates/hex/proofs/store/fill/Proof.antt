@@ -6,7 +6,7 @@ use lib.Seq.{sets}
 use native.Mathlib.Nat.{add-zero}
 use native.Mathlib.Omega.{arith}
 use borrow.Author.Needs.{needs}
-use Rattle.hex.specs.Line.{bytesOf}
+use Rattle.hex.specs.Line.{lineBytesOf}
 use Rattle.hex.proofs.Good.{fill-turn, fill-end}
 use Rattle.hex.proofs.store.fill.Statement.{statement}
 use Rattle.hex.proofs.store.fill.Tie as tie
@@ -14,7 +14,7 @@ use Rattle.hex.proofs.store.fill.Tie as tie
 abbrev Inv-loop : tie.InvT-loop
 Inv-loop t mem₀ to line count k₀ mem k =
     (k ≤ count) × (length mem ≡ length mem₀)
-    × (sets mem (to + k) (drop k (take count (drop 4 (bytesOf line)))) ≡ sets mem₀ to (take count (drop 4 (bytesOf line))))
+    × (sets mem (to + k) (drop k (take count (drop 4 (lineBytesOf line)))) ≡ sets mem₀ to (take count (drop 4 (lineBytesOf line))))
 
 abbrev μ-loop : tie.MeasureT-loop
 μ-loop t mem₀ to line count k₀ mem k = count - k

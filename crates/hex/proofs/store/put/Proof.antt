@@ -4,21 +4,21 @@ use Prim.Native.Nat.{_+_, _*_, _≤_}
 use lib.ListN.{length}
 use native.Mathlib.Omega.{arith}
 use borrow.Author.Needs.{needs}
-use Rattle.hex.specs.Line.{kindOf, addressOf}
+use Rattle.hex.specs.Line.{recordTypeOf, recordAddressOf}
 use Rattle.hex.proofs.Good.{well-formed, formed, long, data-inside, placed-data, placed-other, placed-none}
 use Rattle.hex.proofs.store.put.Statement.{statement}
 use Rattle.hex.proofs.store.put.Tie as tie
 
 -- a data record with some bytes
 module _ (c : tie.After-half) where
-  kind : kindOf (c .before .before .before .before .before .before .before .args .line .now) ≡ 0
+  kind : recordTypeOf (c .before .before .before .before .before .before .before .args .line .now) ≡ 0
   kind = sym (c .before .before .before .byte2 .ensures .0) ∙ c .before .before .if1 .taken
 
   inside : (0x8000_0000 ≤ c .before .before .before .before .before .before .before .args .upper * 65536 + c .half .result)
       × (c .before .before .before .before .before .before .before .args .upper * 65536 + c .half .result
       + c .before .before .before .before .byte .result ≤ 0x8000_0000 + length
       (c .before .before .before .before .before .before .before .args .mem .now))
-  unfolding addressOf
+  unfolding recordAddressOf
   inside =
       let s = c .before .before .before .before .before .before .before in
       let o = c .half .ensures .0 in

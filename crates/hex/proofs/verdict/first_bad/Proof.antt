@@ -7,9 +7,9 @@ use lib.ListN.{length, take, drop, drop-of-length-le}
 use native.Mathlib.Omega.{arith}
 use borrow.Author.Needs.{needs}
 use Rattle.hex.specs.Lines.{linesOf}
-use Rattle.hex.specs.Line.{countOf}
+use Rattle.hex.specs.Line.{recordCountOf}
 use Rattle.hex.specs.Load.{noStart, lastStart, firstBad}
-use Rattle.hex.specs.Inner.{sumOf, Cut}
+use Rattle.hex.specs.Inner.{lineSumOf, Cut}
 use Rattle.hex.proofs.Good.{paired, well-formed}
 use Rattle.hex.proofs.Lines.{some, parts}
 use Rattle.hex.proofs.Readings.{read-bad}
@@ -54,10 +54,10 @@ module _ (c : tie.Else1 Inv-loop μ-loop) where
   cut : Cut text (loop .loop .at) (read .read .result .stop) (read .read .result .next)
   cut = read .read .ensures .cut (omega arith)
 
-  zero : sumOf line ≡ 0
-  zero = ap sumOf (sym (parts (cut .lines) .0)) ∙ read .read .ensures .sum (omega arith) ∙ c .if1 .left
+  zero : lineSumOf line ≡ 0
+  zero = ap lineSumOf (sym (parts (cut .lines) .0)) ∙ read .read .ensures .sum (omega arith) ∙ c .if1 .left
 
-  long : length line ≡ 2 * countOf line + 11
+  long : length line ≡ 2 * recordCountOf line + 11
   long = rw (parts (cut .lines) .0) at (read .read .ensures .long (omega arith))
 
 is-good-requires : tie.Need-is-good-requires Inv-loop μ-loop

@@ -1,56 +1,56 @@
 -- `moves::access::flat_row` meets its contract: the rows of LOAD. Assumes nothing.
 
 use Rattle.word.proofs.Tables.{hit}
-use Rattle.base.specs.Base.{loads, loadOf}
+use Rattle.base.specs.Base.{loads, decodeLoadOf}
 use Rattle.moves.proofs.Loaded.{row-loads, no-load}
 use borrow.Author.Needs.{needs}
 use Rattle.moves.proofs.access.flat_row.Statement.{statement}
 use Rattle.moves.proofs.access.flat_row.Tie as tie
 
 returns : tie.Need-returns
-unfolding loadOf
+unfolding decodeLoadOf
 returns c =
     let a = c .before .before .before .args in
     λ off. row-loads (c .flat-load .result) _ _ (a .f) off (a .a) (a .mem .now) (hit (loads (a .f) off) (c .before .match .keys1))
     (c .flat-load .ensures (a .f) off)
 
 returns-2 : tie.Need-returns-2
-unfolding loadOf
+unfolding decodeLoadOf
 returns-2 c =
     let a = c .before .before .before .args in
     λ off. row-loads (c .flat-load2 .result) _ _ (a .f) off (a .a) (a .mem .now) (hit (loads (a .f) off) (c .before .match .keys2))
     (c .flat-load2 .ensures (a .f) off)
 
 returns-3 : tie.Need-returns-3
-unfolding loadOf
+unfolding decodeLoadOf
 returns-3 c =
     let a = c .before .before .before .args in
     λ off. row-loads (c .flat-load3 .result) _ _ (a .f) off (a .a) (a .mem .now) (hit (loads (a .f) off) (c .before .match .keys3))
     (c .flat-load3 .ensures (a .f) off)
 
 returns-4 : tie.Need-returns-4
-unfolding loadOf
+unfolding decodeLoadOf
 returns-4 c =
     let a = c .before .before .before .args in
     λ off. row-loads (c .flat-load4 .result) _ _ (a .f) off (a .a) (a .mem .now) (hit (loads (a .f) off) (c .before .match .keys4))
     (c .flat-load4 .ensures (a .f) off)
 
 returns-5 : tie.Need-returns-5
-unfolding loadOf
+unfolding decodeLoadOf
 returns-5 c =
     let a = c .before .before .before .args in
     λ off. row-loads (c .flat-load5 .result) _ _ (a .f) off (a .a) (a .mem .now) (hit (loads (a .f) off) (c .before .match .keys5))
     (c .flat-load5 .ensures (a .f) off)
 
 returns-6 : tie.Need-returns-6
-unfolding loadOf
+unfolding decodeLoadOf
 returns-6 c =
     let a = c .before .before .before .args in
     λ off. row-loads (c .flat-load6 .result) _ _ (a .f) off (a .a) (a .mem .now) (hit (loads (a .f) off) (c .before .match .keys6))
     (c .flat-load6 .ensures (a .f) off)
 
 returns-7 : tie.Need-returns-7
-unfolding loadOf
+unfolding decodeLoadOf
 returns-7 c =
     let a = c .before .before .before .args in
     λ off. row-loads (c .flat-load7 .result) _ _ (a .f) off (a .a) (a .mem .now) (hit (loads (a .f) off) (c .before .match .keys7))

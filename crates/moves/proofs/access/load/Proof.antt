@@ -1,6 +1,6 @@
 -- `moves::access::load` meets its contract: the access of a load. Assumes nothing.
 use mathlib.Core.Path.{sym, _∙_}
-use Rattle.base.specs.Base.{loadOf}
+use Rattle.base.specs.Base.{decodeLoadOf}
 use Rattle.transfer.specs.Access.{accessOf, passedOf}
 use Rattle.meaning.specs.Instruction.{executeOf}
 use Rattle.moves.proofs.Ways.{read, does-as, undone-does}
@@ -22,7 +22,7 @@ returns-2 c =
     let l = a .before .before .before .before in
     let k = l .before .before .before in
     let d = k .before .before in
-    let told = read loadOf (d .before .before .split .ensures) (d .before .imm-i .ensures) (d .load .ensures) (k .access .given .1) in
+    let told = read decodeLoadOf (d .before .before .split .ensures) (d .before .imm-i .ensures) (d .load .ensures) (k .access .given .1) in
     λ ssp rest. does-as (c .load-at .result) _ _ _ rest _ _ rest _
     (rw (told, l .access2 .given .1, a .sum .ensures, a .before .reg .ensures) (load-parts _ _ _ _ _ _ _ _ _)) (c .load-at .ensures rest)
 

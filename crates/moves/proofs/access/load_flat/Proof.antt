@@ -1,5 +1,5 @@
 -- `moves::access::load_flat` meets its contract: the register takes what the row of the word loads. Assumes nothing.
-use Rattle.base.specs.Base.{loadOf}
+use Rattle.base.specs.Base.{decodeLoadOf}
 use Rattle.word.specs.Immediate.{immI}
 use Rattle.moves.proofs.Loaded.{load-does}
 use Rattle.moves.proofs.Ways.{undone-does}
@@ -17,7 +17,7 @@ returns c =
     let p = g .before .before in
     let a = p .before .before .args in
     let f = p .split .ensures in
-    rw (← f) (load-does (c .wrote .result) (r .flat-row .result) (loadOf (p .split .result) (immI (a .w))) (p .split .result) (immI (a .w))
+    rw (← f) (load-does (c .wrote .result) (r .flat-row .result) (decodeLoadOf (p .split .result) (immI (a .w))) (p .split .result) (immI (a .w))
     (s .sum .result) (n .sum2 .result) (a .w) (a .pc) (a .x .now) _ (a .mem .now)
     (r .flat-row .ensures (immI (a .w))) (n .before .before .if1 .taken) (rw (← i .imm-i .ensures, ← g .reg .ensures) (s .sum .ensures))
     (n .sum2 .ensures) (c .wrote .ensures))

@@ -1,7 +1,7 @@
 -- `moves::access::shadow` meets its contract: a word an arm, which decodes to its access. Assumes nothing.
 use mathlib.Core.Path.{_∙_}
 use Rattle.decoder.specs.Cfi.{zimopOf}
-use Rattle.decoder.specs.System.{systemOf, csrOf}
+use Rattle.decoder.specs.System.{systemOf, decodeCsrOf}
 use Rattle.moves.proofs.Ways.{does-as, undone-does}
 use Rattle.moves.proofs.Parts.{push-on, pop-on}
 use borrow.Author.Needs.{needs}
@@ -9,7 +9,7 @@ use Rattle.moves.proofs.access.shadow.Statement.{statement}
 use Rattle.moves.proofs.access.shadow.Tie as tie
 
 returns : tie.Need-returns
-unfolding systemOf csrOf zimopOf
+unfolding systemOf decodeCsrOf zimopOf
 returns c =
     let k = c .before .before .before .before .before .before in
     rw (k .match .keys1) (does-as (c .before .before .push .result) _ _ _ _ _ _ _ _
@@ -17,7 +17,7 @@ returns c =
     (c .before .before .push .ensures _))
 
 returns-2 : tie.Need-returns-2
-unfolding systemOf csrOf zimopOf
+unfolding systemOf decodeCsrOf zimopOf
 returns-2 c =
     let k = c .before .before .before .before .before .before in
     rw (k .match .keys2) (does-as (c .before .before .push2 .result) _ _ _ _ _ _ _ _
@@ -25,14 +25,14 @@ returns-2 c =
     (c .before .before .push2 .ensures _))
 
 returns-3 : tie.Need-returns-3
-unfolding systemOf csrOf zimopOf
+unfolding systemOf decodeCsrOf zimopOf
 returns-3 c =
     let k = c .before .before .before .before in
     rw (k .match .keys3) (does-as (c .pop .result) _ _ _ _ _ _ _ _
     (pop-on _ _ _ _ _ _ _ (k .before .if1 .taken) 1 ∙ rw (c .before .before .before .reg3 .ensures)) (c .pop .ensures _))
 
 returns-4 : tie.Need-returns-4
-unfolding systemOf csrOf zimopOf
+unfolding systemOf decodeCsrOf zimopOf
 returns-4 c =
     let k = c .before .before .before .before in
     rw (k .match .keys4) (does-as (c .pop2 .result) _ _ _ _ _ _ _ _

@@ -1,5 +1,5 @@
 -- `moves::access::store` meets its contract: the access of a store. Assumes nothing.
-use Rattle.base.specs.Base.{storeOf}
+use Rattle.base.specs.Base.{decodeStoreOf}
 use Rattle.transfer.specs.Access.{accessOf, passedOf}
 use Rattle.meaning.specs.Instruction.{executeOf}
 use Rattle.moves.proofs.Ways.{read, does-as, undone-does}
@@ -16,7 +16,7 @@ returns c =
     let l = a .before .before .before .before in
     let k = l .before .before .before in
     let d = k .before .before in
-    let told = read storeOf (d .before .before .split .ensures) (d .before .imm-s .ensures) (d .store .ensures) (k .access .given .1) in
+    let told = read decodeStoreOf (d .before .before .split .ensures) (d .before .imm-s .ensures) (d .store .ensures) (k .access .given .1) in
     λ ssp rest. does-as (r .store-at .result) _ _ _ rest _ _ rest _ (rw (
       told,
       l .access2 .given .1,

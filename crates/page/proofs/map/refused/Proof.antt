@@ -5,14 +5,14 @@ use native.Mathlib.Omega.{arith}
 use borrow.Author.Needs.{needs}
 use lib.ListN.{length, drop}
 use Rattle.page.proofs.Entries.{wrongAt, refused-odd, refused-long, refused-start, wrong-end, wrong-low, wrong-large, wrong-next}
-use Rattle.page.specs.Map.{refusedOf}
+use Rattle.page.specs.Map.{mapRefusedOf}
 use Rattle.page.proofs.map.refused.Statement.{statement}
 use Rattle.page.proofs.map.refused.Tie as tie
 use Rattle.page.proofs.map.refused.Reads as reads
 use Rattle.page.proofs.map.refused.Lts as lts
 
 abbrev Inv-loop : tie.InvT-loop
-Inv-loop map low₀ i₀ low i = (i ≤ length map) × (i % 2 ≡ 0) × (refusedOf map ≡ wrongAt low (drop i map))
+Inv-loop map low₀ i₀ low i = (i ≤ length map) × (i % 2 ≡ 0) × (mapRefusedOf map ≡ wrongAt low (drop i map))
 
 abbrev μ-loop : tie.MeasureT-loop
 μ-loop map low₀ i₀ low i = length map - i

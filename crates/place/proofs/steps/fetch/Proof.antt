@@ -1,6 +1,6 @@
 -- `place::steps::fetch` meets its contract: the steps in their order, of which masking and MPRV are not for a fetch. Assumes nothing.
 use mathlib.Core.Path.{sym, _∙_}
-use Rattle.address.specs.Control.{modeOf}
+use Rattle.address.specs.Control.{effectiveModeOf}
 use Rattle.address.specs.Mask.{transformedOf}
 use Rattle.place.specs.Place.{reachedOf, placeOf}
 use borrow.Author.Needs.{needs}
@@ -8,7 +8,7 @@ use Rattle.place.proofs.steps.fetch.Statement.{statement}
 use Rattle.place.proofs.steps.fetch.Tie as tie
 
 returns : tie.Need-returns
-unfolding placeOf reachedOf modeOf transformedOf
+unfolding placeOf reachedOf effectiveModeOf transformedOf
 returns c =
     let p = c .before .before .before in
     let b = p .before .before in
@@ -16,14 +16,14 @@ returns c =
     (c .paged-fetch .ensures)
 
 returns-2 : tie.Need-returns-2
-unfolding placeOf reachedOf modeOf transformedOf
+unfolding placeOf reachedOf effectiveModeOf transformedOf
 returns-2 c =
     let p = c .before .before in
     let b = p .before .before in
     rw (sym (b .aligned .ensures) ∙ p .before .if1 .taken, sym (p .paged .ensures) ∙ c .before .if2 .left) (c .plain .ensures)
 
 returns-3 : tie.Need-returns-3
-unfolding placeOf reachedOf modeOf transformedOf
+unfolding placeOf reachedOf effectiveModeOf transformedOf
 returns-3 c = let b = c .before .before in rw (sym (b .aligned .ensures) ∙ c .before .if1 .left, c .misaligned .ensures)
 
 pub fetch-spec : {M : Type 1} → statement M

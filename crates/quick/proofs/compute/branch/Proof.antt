@@ -1,6 +1,6 @@
 -- `quick::compute::branch` meets its contract: by its condition. Assumes nothing.
 use mathlib.Core.Path.{sym, _∙_}
-use Rattle.base.specs.Base.{branchOf}
+use Rattle.base.specs.Base.{decodeBranchOf}
 use Rattle.effect.specs.Jump.{branchOf as takenOf}
 use Rattle.meaning.specs.Instruction.{executeOf}
 use Rattle.moves.proofs.Ways.{read, does-as, wrote-does, undone-does}
@@ -14,7 +14,7 @@ returns c =
     let t = c .before .before .before in
     let k = t .before .before .before .before .before .before .before in
     let d = k .before .before in
-    let told = read branchOf (d .before .before .split .ensures) (d .before .imm-b .ensures) (d .branch .ensures) (k .k .given .1) in
+    let told = read decodeBranchOf (d .before .before .split .ensures) (d .before .imm-b .ensures) (d .branch .ensures) (k .k .given .1) in
     let n = t .before in
     let holds = sym (rw (n .before .before .before .reg .ensures, n .before .reg2 .ensures) at (n .condition .ensures)) ∙ (t .if1 .taken) in
     λ pad ssp s rest m map e. does-as (c .jumped .result) _ _ _ rest m _ rest m (rw (told, holds, c .before .sum .ensures))
@@ -26,7 +26,7 @@ returns-2 c =
     let t = c .before .before .before in
     let k = t .before .before .before .before .before .before .before in
     let d = k .before .before in
-    let told = read branchOf (d .before .before .split .ensures) (d .before .imm-b .ensures) (d .branch .ensures) (k .k .given .1) in
+    let told = read decodeBranchOf (d .before .before .split .ensures) (d .before .imm-b .ensures) (d .branch .ensures) (k .k .given .1) in
     let n = t .before in
     let holds = sym (rw (n .before .before .before .reg .ensures, n .before .reg2 .ensures) at (n .condition .ensures)) ∙ (t .if1 .left) in
     λ pad ssp s rest m map e. wrote-does _ 0 0 _ _ _ (c .wrote .ensures) _ (rw (told, holds, c .before .sum2 .ensures)) rest m

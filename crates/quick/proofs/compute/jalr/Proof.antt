@@ -1,5 +1,5 @@
 -- `quick::compute::jalr` meets its contract: the landing pad, then the jump. Assumes nothing.
-use Rattle.base.specs.Base.{jalrOf}
+use Rattle.base.specs.Base.{decodeJalrOf}
 use Rattle.effect.specs.Jump.{jalrOf as jumpOf}
 use Rattle.meaning.specs.Instruction.{executeOf}
 use Rattle.moves.proofs.Ways.{read, undone-does}
@@ -15,7 +15,7 @@ returns-2 c =
     let t = j .before .before .before .before in
     let k = t .before .before .before .before in
     let d = k .before .before in
-    let told = read jalrOf (d .before .before .split .ensures) (d .before .imm-i .ensures) (d .jalr .ensures) (k .rd .given .1) in
+    let told = read decodeJalrOf (d .before .before .split .ensures) (d .before .imm-i .ensures) (d .jalr .ensures) (k .rd .given .1) in
     λ ssp s rest m map e. padless (c .jumped .result) _ _ _ _ _ _ rest m _ (t .if1 .left) (rw (
       told,
       e,

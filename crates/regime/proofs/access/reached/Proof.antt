@@ -1,11 +1,11 @@
 -- `regime::access::reached` meets its contract. Assumes nothing.
-use Rattle.regime.specs.Access.{reachedOf}
+use Rattle.regime.specs.Access.{csrNamedOf}
 use borrow.Author.Needs.{needs}
 use Rattle.regime.proofs.access.reached.Statement.{statement}
 use Rattle.regime.proofs.access.reached.Tie as tie
 
 returns : tie.Need-returns
-unfolding reachedOf
+unfolding csrNamedOf
 returns c = rw (c .reach .ensures, c .before .permits .ensures, c .before .before .mode .ensures)
 
 pub reached-spec : {M : Type 1} → statement M

@@ -1,6 +1,6 @@
 -- `status::access::shown` meets its contract. Assumes nothing.
 use mathlib.Core.Path.{sym, ap, _∙_}
-use Rattle.status.specs.Status.{wordOf}
+use Rattle.status.specs.Status.{statusWordOf}
 use Rattle.status.proofs.Packed.{shows}
 use borrow.Author.Needs.{needs}
 use Rattle.status.proofs.access.shown.Statement.{statement}
@@ -12,4 +12,4 @@ shown-spec =
     (tie.spec
     (λ c κs. search needs)
     (λ c κs. search needs)
-    (λ c. c .word .ensures ∙ ap wordOf (c .before .split .ensures .0) ∙ sym (shows (c .before .before .args .m))))
+    (λ c. c .word .ensures ∙ ap statusWordOf (c .before .split .ensures .0) ∙ sym (shows (c .before .before .args .m))))

@@ -7,13 +7,13 @@ use Prim.Native.Nat.{ℕ, _+_, _-_}
 use lib.Dec.{eqb, leb, ltb}
 use lib.ListN.{getD}
 use Rattle.word.specs.Choice.{pick}
-use Rattle.hex.specs.Line.{kindOf, countOf, addressOf, dataOf}
+use Rattle.hex.specs.Line.{recordTypeOf, recordCountOf, recordAddressOf, dataOf}
 use Rattle.hex.specs.Load.{upperAfter}
 
 -- a data record names as many bytes as it has, from its address on
 unfoldable pub names : (upper : ℕ) → (l : List ℕ) → (j : ℕ) → Bool
 names upper l j =
-    eqb (kindOf l) 0 && (leb (addressOf upper l) (0x8000_0000 + j) && ltb (0x8000_0000 + j) (addressOf upper l + countOf l))
+    eqb (recordTypeOf l) 0 && (leb (recordAddressOf upper l) (0x8000_0000 + j) && ltb (0x8000_0000 + j) (recordAddressOf upper l + recordCountOf l))
 
 unfoldable pub someNames : (upper : ℕ) → (ls : List (List ℕ)) → (j : ℕ) → Bool
 someNames upper [] j = false
@@ -26,7 +26,7 @@ upperAt upper (l ∷ ls) = upperAt (upperAfter upper l) ls
 
 -- what a record has for a byte that it names
 unfoldable pub dataAt : (upper : ℕ) → (l : List ℕ) → (j : ℕ) → ℕ
-dataAt upper l j = getD (dataOf l) (0x8000_0000 + j - addressOf upper l) 0
+dataAt upper l j = getD (dataOf l) (0x8000_0000 + j - recordAddressOf upper l) 0
 
 -- a byte after the records in order, where it was old
 unfoldable pub byteAfter : (upper : ℕ) → (ls : List (List ℕ)) → (j old : ℕ) → ℕ
