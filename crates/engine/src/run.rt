@@ -8,7 +8,7 @@ use meaning::Source;
 use words::COUNT;
 use words::setting;
 ghost use mathlib.Core.Path.{_≡_};
-ghost use Prim.Native.Nat.{_^_, _≤_};
+ghost use Prim.Native.Nat.{_^_, _<_, _≤_};
 ghost use lib.ListN.{length};
 ghost use Rattle.meaning.specs.Context.{Knows};
 ghost use Rattle.meaning.specs.declared.Source.the-variants.{Fetch};
@@ -90,9 +90,9 @@ const FIRST: u64 = 1024;
 // How many steps of the fast path are many beside its clearing.
 const FAR: u64 = 32768;
 
-// The smaller of the two.
+// The smaller of the two, and so not 0 where neither is.
 fn few(a: u64, b: u64) -> u64
-    ensures { λ r. ⌜ (r ≤ a) × (r ≤ b) ⌝ }
+    ensures { λ r. ⌜ (r ≤ a) × (r ≤ b) × (0 < a → 0 < b → 0 < r) ⌝ }
 {
     if a < b {
         return a;

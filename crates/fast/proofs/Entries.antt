@@ -13,7 +13,7 @@ use Rattle.regime.specs.declared.Setting.{Setting}
 use Rattle.form.specs.declared.Form.{Form}
 use Rattle.form.specs.declared.Op.{Op}
 use Rattle.form.specs.declared.Op.the-variants.{Add}
-use Rattle.fast.specs.Memo.{none, slotOf, tagAt, indexAt, formAt, flagAt, Read, Stands, Holds, numsWith, bytesWith}
+use Rattle.fast.specs.Memo.{none, slotOf, tagAt, indexAt, formAt, sumAt, flagAt, Read, Stands, Holds, numsWith, bytesWith}
 use Rattle.fast.proofs.Fetched.{read-as}
 
 -- at first every entry is empty
@@ -67,33 +67,58 @@ module _ (xs : List ℕ) (i a b c : ℕ) (long : 12288 ≤ length xs) (low : i <
     as-three =
         apart (k + 8192) d (λ e. absurd (omega (arith, e, low))) (λ e. absurd (omega (arith, e, low))) (λ e. absurd (n (omega (arith, e))))
 
--- behind them the flags
-module _ (bytes : List ℕ) (f : Form) (at pc : ℕ) (long : length bytes ≡ 12544) (most : at < 2 ^ 20) where
+-- behind them whether each is a sum, and the flags
+module _ (bytes : List ℕ) (f : Form) (at pc sum : ℕ) (long : length bytes ≡ 16640) (most : at < 2 ^ 20) where
   abbrev registers : List ℕ
   registers = three bytes (slotOf pc) (f .rd) (f .rs1) (f .rs2) (omega (arith, long)) (omega arith)
 
-  -- a flag's store is in no register's way
-  register : (n : ℕ) → n < 12288 → getD (bytesWith bytes pc at f) n 0 ≡ getD registers n 0
-  register n l = getD-set-other registers (at / 4096 + 12288) n 1 0 (λ e. absurd (omega (arith, e, l)))
+  abbrev summed : List ℕ
+  summed = set registers (slotOf pc + 12288) sum
 
-  flag-set : flagAt (bytesWith bytes pc at f) at ≡ 1
+  length-registers : length registers ≡ 16640
+  length-registers = length-three bytes (slotOf pc) (f .rd) (f .rs1) (f .rs2) (omega (arith, long)) (omega arith) ∙ long
+
+  -- behind the registers' part there is what was
+  behind : (n : ℕ) → 12288 ≤ n → getD registers n 0 ≡ getD bytes n 0
+  behind n l =
+      apart bytes (slotOf pc) (f .rd) (f .rs1) (f .rs2) (omega (arith, long)) (omega arith) n 0
+      (λ d. absurd (omega (arith, d, l)))
+      (λ d. absurd (omega (arith, d, l)))
+      (λ d. absurd (omega (arith, d, l)))
+
+  -- the stores behind it are in no register's way
+  register : (n : ℕ) → n < 12288 → getD (bytesWith bytes pc at sum f) n 0 ≡ getD registers n 0
+  register n l =
+      getD-set-other summed (at / 4096 + 16384) n 1 0 (λ e. absurd (omega (arith, e, l)))
+      ∙ getD-set-other registers (slotOf pc + 12288) n sum 0 (λ e. absurd (omega (arith, e, l)))
+
+  sum-set : sumAt (bytesWith bytes pc at sum f) (slotOf pc) ≡ sum
+  sum-set =
+      getD-set-other summed (at / 4096 + 16384) (slotOf pc + 12288) 1 0 (λ e. absurd (omega (arith, e)))
+      ∙ getD-set-same registers (slotOf pc + 12288) sum 0 (rw length-registers (omega arith))
+
+  sum-stays : (k : ℕ) → k < 4096 → (k ≡ slotOf pc → ⊥) → sumAt (bytesWith bytes pc at sum f) k ≡ sumAt bytes k
+  sum-stays k l n =
+      getD-set-other summed (at / 4096 + 16384) (k + 12288) 1 0 (λ e. absurd (omega (arith, e, l)))
+      ∙ getD-set-other registers (slotOf pc + 12288) (k + 12288) sum 0 (λ e. n (omega (arith, e)))
+      ∙ behind (k + 12288) (omega arith)
+
+  flag-set : flagAt (bytesWith bytes pc at sum f) at ≡ 1
   flag-set =
-      getD-set-same registers (at / 4096 + 12288) 1 0
-      (rw (length-three bytes (slotOf pc) (f .rd) (f .rs1) (f .rs2) (omega (arith, long)) (omega arith), long) (omega (arith, most)))
+      getD-set-same summed (at / 4096 + 16384) 1 0
+      (rw (length-set registers (slotOf pc + 12288) sum, length-registers) (omega (arith, most)))
 
   -- a flag that was set stays so
-  flag-stays : (n : ℕ) → flagAt bytes n ≡ 1 → flagAt (bytesWith bytes pc at f) n ≡ 1
+  flag-stays : (n : ℕ) → flagAt bytes n ≡ 1 → flagAt (bytesWith bytes pc at sum f) n ≡ 1
   flag-stays n old = go (eqb (n / 4096) (at / 4096)) refl
     where
-      go : (t : Bool) → eqb (n / 4096) (at / 4096) ≡ t → flagAt (bytesWith bytes pc at f) n ≡ 1
-      go true e = ap (λ (j : ℕ). getD (bytesWith bytes pc at f) (j + 12288) 0) (eqb-true (n / 4096) (at / 4096) e) ∙ flag-set
+      go : (t : Bool) → eqb (n / 4096) (at / 4096) ≡ t → flagAt (bytesWith bytes pc at sum f) n ≡ 1
+      go true e = ap (λ (j : ℕ). getD (bytesWith bytes pc at sum f) (j + 16384) 0) (eqb-true (n / 4096) (at / 4096) e) ∙ flag-set
       go false e =
           let m = eqb-false (n / 4096) (at / 4096) e in
-          getD-set-other registers (at / 4096 + 12288) (n / 4096 + 12288) 1 0 (λ d. m (omega (arith, d)))
-          ∙ apart bytes (slotOf pc) (f .rd) (f .rs1) (f .rs2) (omega (arith, long)) (omega arith) (n / 4096 + 12288) 0
-          (λ d. absurd (omega (arith, d)))
-          (λ d. absurd (omega (arith, d)))
-          (λ d. absurd (omega (arith, d)))
+          getD-set-other summed (at / 4096 + 16384) (n / 4096 + 16384) 1 0 (λ d. m (omega (arith, d)))
+          ∙ getD-set-other registers (slotOf pc + 12288) (n / 4096 + 16384) sum 0 (λ d. absurd (omega (arith, d)))
+          ∙ behind (n / 4096 + 16384) (omega arith)
           ∙ old
 
 -- a form by its parts
@@ -102,8 +127,8 @@ form-as : (o o' : Op) (rd rd' rs1 rs1' rs2 rs2' v v' : ℕ) → o ≡ o' → rd 
     (record { op = o'; rd = rd'; rs1 = rs1'; rs2 = rs2'; value = v' })
 form-as o o' rd rd' rs1 rs1' rs2 rs2' v v' p q r s t = rw (p, q, r, s, t)
 
-module _ (nums bytes : List ℕ) (ops : List Op) (s : Setting) (m map : List ℕ) (f : Form) (at pc : ℕ) (ln : length nums ≡ 12288)
-    (lb : length bytes ≡ 12544) (lo : length ops ≡ 4096) (most : at < 2 ^ 20) where
+module _ (nums bytes : List ℕ) (ops : List Op) (s : Setting) (m map : List ℕ) (f : Form) (at pc sum : ℕ) (ln : length nums ≡ 12288)
+    (lb : length bytes ≡ 16640) (lo : length ops ≡ 4096) (most : at < 2 ^ 20) (told : sum ≡ 1 → f .op ≡ Add) where
   abbrev i : ℕ
   i = slotOf pc
 
@@ -111,7 +136,7 @@ module _ (nums bytes : List ℕ) (ops : List Op) (s : Setting) (m map : List ℕ
   nums' = numsWith nums pc at (f .value)
 
   abbrev bytes' : List ℕ
-  bytes' = bytesWith bytes pc at f
+  bytes' = bytesWith bytes pc at sum f
 
   abbrev ops' : List Op
   ops' = set ops (slotOf pc) (f .op)
@@ -132,21 +157,25 @@ module _ (nums bytes : List ℕ) (ops : List Op) (s : Setting) (m map : List ℕ
   own-index : indexAt nums' i ≡ at
   own-index = at-two nums i pc at (f .value) wide low 0
 
+  own-op : getD ops' i Add ≡ f .op
+  own-op = getD-set-same ops i (f .op) Add (rw lo low)
+
   own-form : formAt nums' bytes' ops' i ≡ f
   own-form =
       form-as (getD ops' i Add) (f .op) (getD bytes' i 0) (f .rd) (getD bytes' (i + 4096) 0) (f .rs1) (getD bytes' (i + 8192) 0) (f .rs2)
       (getD nums' (i + 8192) 0) (f .value)
-      (getD-set-same ops i (f .op) Add (rw lo low))
-      (register bytes f at pc lb most i (omega arith) ∙ at-one bytes i (f .rd) (f .rs1) (f .rs2) broad low 0)
-      (register bytes f at pc lb most (i + 4096) (omega arith) ∙ at-two bytes i (f .rd) (f .rs1) (f .rs2) broad low 0)
-      (register bytes f at pc lb most (i + 8192) (omega arith) ∙ at-three bytes i (f .rd) (f .rs1) (f .rs2) broad low 0)
+      own-op
+      (register bytes f at pc sum lb most i (omega arith) ∙ at-one bytes i (f .rd) (f .rs1) (f .rs2) broad low 0)
+      (register bytes f at pc sum lb most (i + 4096) (omega arith) ∙ at-two bytes i (f .rd) (f .rs1) (f .rs2) broad low 0)
+      (register bytes f at pc sum lb most (i + 8192) (omega arith) ∙ at-three bytes i (f .rd) (f .rs1) (f .rs2) broad low 0)
       (at-three nums i pc at (f .value) wide low 0)
 
   own : Read f at pc s m map → Stands nums' bytes' ops' i s m map
   own r = record {
     slot = ap slotOf own-tag;
     read = read-as f (formAt nums' bytes' ops' i) at (indexAt nums' i) pc (tagAt nums' i) s m map own-form own-index own-tag r;
-    flag = ap (flagAt bytes') own-index ∙ flag-set bytes f at pc lb most;
+    sum = λ e. own-op ∙ told (sym (sum-set bytes f at pc sum lb most) ∙ e);
+    flag = ap (flagAt bytes') own-index ∙ flag-set bytes f at pc sum lb most;
   }
 
   -- another one
@@ -157,14 +186,17 @@ module _ (nums bytes : List ℕ) (ops : List Op) (s : Setting) (m map : List ℕ
     index : indexAt nums' k ≡ indexAt nums k
     index = as-two nums i pc at (f .value) wide low k 0 l n
 
+    op : getD ops' k Add ≡ getD ops k Add
+    op = getD-set-other ops i k (f .op) Add n
+
     form : formAt nums' bytes' ops' k ≡ formAt nums bytes ops k
     form =
         form-as (getD ops' k Add) (getD ops k Add) (getD bytes' k 0) (getD bytes k 0) (getD bytes' (k + 4096) 0) (getD bytes (k + 4096) 0)
         (getD bytes' (k + 8192) 0) (getD bytes (k + 8192) 0) (getD nums' (k + 8192) 0) (getD nums (k + 8192) 0)
-        (getD-set-other ops i k (f .op) Add n)
-        (register bytes f at pc lb most k (omega (arith, l)) ∙ as-one bytes i (f .rd) (f .rs1) (f .rs2) broad low k 0 l n)
-        (register bytes f at pc lb most (k + 4096) (omega (arith, l)) ∙ as-two bytes i (f .rd) (f .rs1) (f .rs2) broad low k 0 l n)
-        (register bytes f at pc lb most (k + 8192) (omega (arith, l)) ∙ as-three bytes i (f .rd) (f .rs1) (f .rs2) broad low k 0 l n)
+        op
+        (register bytes f at pc sum lb most k (omega (arith, l)) ∙ as-one bytes i (f .rd) (f .rs1) (f .rs2) broad low k 0 l n)
+        (register bytes f at pc sum lb most (k + 4096) (omega (arith, l)) ∙ as-two bytes i (f .rd) (f .rs1) (f .rs2) broad low k 0 l n)
+        (register bytes f at pc sum lb most (k + 8192) (omega (arith, l)) ∙ as-three bytes i (f .rd) (f .rs1) (f .rs2) broad low k 0 l n)
         (as-three nums i pc at (f .value) wide low k 0 l n)
 
     other : Stands nums bytes ops k s m map → Stands nums' bytes' ops' k s m map
@@ -172,7 +204,8 @@ module _ (nums bytes : List ℕ) (ops : List Op) (s : Setting) (m map : List ℕ
       slot = ap slotOf tag ∙ old .slot;
       read = read-as (formAt nums bytes ops k) (formAt nums' bytes' ops' k) (indexAt nums k) (indexAt nums' k) (tagAt nums k) (tagAt nums' k) s m map
           form index tag (old .read);
-      flag = ap (flagAt bytes') index ∙ flag-stays bytes f at pc lb most (indexAt nums k) (old .flag);
+      sum = λ e. op ∙ old .sum (sym (sum-stays bytes f at pc sum lb most k l n) ∙ e);
+      flag = ap (flagAt bytes') index ∙ flag-stays bytes f at pc sum lb most (indexAt nums k) (old .flag);
     }
 
   -- with the word at pc

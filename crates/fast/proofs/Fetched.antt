@@ -5,7 +5,6 @@ use mathlib.Core.Path.{_≡_}
 use Prim.Native.Nat.{ℕ, _+_, _-_, _%_, _^_, _<_, _≤_}
 use native.Mathlib.Omega.{arith}
 use lib.ListN.{length}
-use Rattle.isa.specs.declared.Instruction.{Instruction}
 use Rattle.isa.specs.declared.Kind.the-variants.{Fetch}
 use Rattle.isa.specs.declared.Width.the-variants.{Word}
 use Rattle.decoder.specs.Decode.{decodeOf}
@@ -50,14 +49,14 @@ pub read-as : (f g : Form) (at to pc pd : ℕ) (s : Setting) (m map : List ℕ) 
 read-as f g at to pc pd s m map e d p r = rw (e, d, p) r
 
 -- read anew: a fetch has this place, and the form is that of the word there
-pub found : (f : Form) (i : Instruction) (at w pc : ℕ) (s : Setting) (m map : List ℕ) (q : Physical)
+pub found : (f : Form) (at w pc : ℕ) (s : Setting) (m map : List ℕ) (q : Physical)
     → placeOf (s .control) Fetch Word pc map (length m) ≡ At q → at ≡ q .0 - base → length m ≤ 2 ^ 20
-    → w ≡ loadOf m at 4 → i ≡ decodeOf w → ((v : ℕ) → Means f i v pc s) → (f .rd < 32) × (f .rs1 < 32) × (f .rs2 < 32)
+    → w ≡ loadOf m at 4 → Means f (decodeOf w) w pc s → (f .rd < 32) × (f .rs1 < 32) × (f .rs2 < 32)
     → (at < 2 ^ 20) × Read f at pc s m map
-found f i at w pc s m map q there e most l d means small =
+found f at w pc s m map q there e most l means small =
     let r : Read f at pc s m map = record {
       place = at-index (s .control) Fetch Word pc map (length m) q at there e;
-      means = rw (← l, ← d) (means w);
+      means = rw (← l) means;
       small = small;
     } in
     (omega (arith, reading f at pc s m map r .0, most), r)

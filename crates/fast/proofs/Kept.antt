@@ -53,6 +53,7 @@ module _ (nums bytes nums' : List ℕ) (ops : List Op) (s : Setting) (m m' map :
       slot = rw (same-tag k l left) (old .slot);
       read = read-as f (formAt nums' bytes ops k) at (indexAt nums' k) pc (tagAt nums' k) s m' map (rw (e .0 .1 k l .1)) (e .0 .1 k l .0)
           (same-tag k l left) (still f at pc s m map (old .read) m' (t .2) word);
+      sum = old .sum;
       flag = rw (e .0 .1 k l .0) (old .flag);
     }
 

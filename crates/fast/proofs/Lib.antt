@@ -3,6 +3,5 @@ pub mod Cleared
 pub mod Entries
 pub mod Fetched
 pub mod Kept
-pub mod Longer
 pub mod Ready
 pub mod Turning

@@ -11,7 +11,8 @@ use Rattle.word.proofs.Choices.{first}
 use Rattle.word.specs.Choice.{pick}
 use Rattle.regime.specs.declared.Setting.{Setting}
 use Rattle.form.specs.declared.Op.{Op}
-use Rattle.fast.specs.Memo.{none, slotOf, tagAt, indexAt, formAt, Read, Holds, numsWith, bytesWith}
+use Rattle.form.specs.declared.Op.the-variants.{Add}
+use Rattle.fast.specs.Memo.{none, slotOf, tagAt, indexAt, formAt, sumAt, Read, Stands, Holds, numsWith, bytesWith, Filled}
 use Rattle.fast.specs.declared.Known.{Known}
 use Rattle.fast.proofs.Entries.{entered}
 
@@ -20,11 +21,15 @@ Ready nums bytes ops pc s m map =
     (length nums ≡ 12288) × (length ops ≡ 4096) × (tagAt nums (slotOf pc) ≡ pc) × Holds nums bytes ops s m map
 
 -- what an entry of pc says
-pub ready-read : (nums bytes : List ℕ) (ops : List Op) (pc : ℕ) (s : Setting) (m map : List ℕ) → pc % 4 ≡ 0 → Ready nums bytes ops pc s m map
-    → Read (formAt nums bytes ops (slotOf pc)) (indexAt nums (slotOf pc)) pc s m map
-ready-read nums bytes ops pc s m map z r =
-    let stands = r .3 (slotOf pc) (omega arith) (λ e. let d : pc ≡ none = sym (r .2) ∙ e in omega (arith, z, d)) in
-    subst (λ (p : ℕ). Read (formAt nums bytes ops (slotOf pc)) (indexAt nums (slotOf pc)) p s m map) (r .2) (stands .read)
+module _ (nums bytes : List ℕ) (ops : List Op) (pc : ℕ) (s : Setting) (m map : List ℕ) (z : pc % 4 ≡ 0) (r : Ready nums bytes ops pc s m map) where
+  stands : Stands nums bytes ops (slotOf pc) s m map
+  stands = r .3 (slotOf pc) (omega arith) (λ e. let d : pc ≡ none = sym (r .2) ∙ e in omega (arith, z, d))
+
+  pub ready-read : Read (formAt nums bytes ops (slotOf pc)) (indexAt nums (slotOf pc)) pc s m map
+  ready-read = subst (λ (p : ℕ). Read (formAt nums bytes ops (slotOf pc)) (indexAt nums (slotOf pc)) p s m map) (r .2) (stands .read)
+
+  pub ready-sum : sumAt bytes (slotOf pc) ≡ 1 → getD ops (slotOf pc) Add ≡ Add
+  ready-sum = stands .sum
 
 -- what is read within a list does not depend on what is read behind it
 within : (l : List ℕ) (k : ℕ) → k < length l → getD l k none ≡ getD l k 0
@@ -54,18 +59,18 @@ many nums pc at value =
 
 -- an entry that was read anew
 pub made-ready : (nums bytes : List ℕ) (ops : List Op) (pc : ℕ) (s : Setting) (m map : List ℕ) (e : Known) (nums' bytes' : List ℕ) (ops' : List Op)
-    → length nums ≡ 12288 → length bytes ≡ 12544 → length ops ≡ 4096 → Holds nums bytes ops s m map → e .there ≡ true
+    → length nums ≡ 12288 → length bytes ≡ 16640 → length ops ≡ 4096 → Holds nums bytes ops s m map → e .there ≡ true
     → (e .there ≡ true → (e .at < 2 ^ 20) × Read (e .form) (e .at) pc s m map)
     → nums' ≡ pick (e .there) (numsWith nums pc (e .at) (e .form .value)) nums
-    → bytes' ≡ pick (e .there) (bytesWith bytes pc (e .at) (e .form)) bytes → ops' ≡ set ops (slotOf pc) (e .form .op)
+    → Filled (e .there) bytes pc (e .at) (e .form) bytes' → ops' ≡ set ops (slotOf pc) (e .form .op)
     → Ready nums' bytes' ops' pc s m map
 made-ready nums bytes ops pc s m map e nums' bytes' ops' ln lb lo holds there read en eb eo =
     let fn : nums' ≡ numsWith nums pc (e .at) (e .form .value) = en ∙ first (e .there) _ nums there in
-    let fb : bytes' ≡ bytesWith bytes pc (e .at) (e .form) = eb ∙ first (e .there) _ bytes there in
+    let fb : bytes' ≡ bytesWith bytes pc (e .at) (eb .sum) (e .form) = eb .stored ∙ first (e .there) _ bytes there in
     let r = read there in
     rw (fn, fb, eo) (
       many nums pc (e .at) (e .form .value) ∙ ln,
       length-set ops (slotOf pc) (e .form .op) ∙ lo,
       tagged nums pc (e .at) (e .form .value) ln,
-      entered nums bytes ops s m map (e .form) (e .at) pc ln lb lo (r .0) (r .1) holds,
+      entered nums bytes ops s m map (e .form) (e .at) pc (eb .sum) ln lb lo (r .0) (eb .told) (r .1) holds,
     )

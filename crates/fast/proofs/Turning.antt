@@ -10,6 +10,7 @@ use lib.Dec.{eqb}
 use lib.ListN.{getD, set}
 use borrow.Author.Tests.{eqb-true}
 use Rattle.word.specs.Choice.{pick}
+use Rattle.word.specs.Sum.{sumOf}
 use Rattle.isa.specs.Size.{widthOf}
 use Rattle.isa.specs.declared.Access.{Access}
 use Rattle.isa.specs.declared.Access.the-variants as access
@@ -23,7 +24,7 @@ use Rattle.place.specs.declared.Place.the-variants as place
 use Rattle.address.specs.declared.control.Control.{Control}
 use Rattle.effect.specs.Compute.{conditionOf}
 use Rattle.effect.specs.Jump.{evenOf, jalOf, jalrOf, branchOf}
-use Rattle.effect.specs.Register.{regOf}
+use Rattle.effect.specs.Register.{regOf, putOf}
 use Rattle.effect.specs.declared.Effect.{Effect}
 use Rattle.effect.specs.declared.Effect.the-variants as effect
 use Rattle.effect.specs.declared.Whole as kind
@@ -207,6 +208,19 @@ module _ (f : Form) (at pc : ℕ) (x w m map : List ℕ) (s : Setting) (st : Str
 
   pub stayed : done ≡ false → (x' ≡ x) × (w' ≡ w) × (m' ≡ m)
   stayed t = rw t at d
+
+-- a form that adds was carried out by itself: its sum was written, and pc went on
+module _ (f : Form) (at pc : ℕ) (x w m map : List ℕ) (s : Setting) (st : Straight w) (zero : regOf x 0 ≡ 0) (z : pc % 4 ≡ 0) (es : settingOf w ≡ s)
+    (r : Read f at pc s m map) (hb : regOf x (f .rs2) < 2 ^ 64) (hv : f .value < 2 ^ 64) (pc' : ℕ) (x' : List ℕ) (adds : f .op ≡ op.Add)
+    (d : (pc' ≡ nextOf pc) × (x' ≡ putOf (f .rd) (sumOf (regOf x (f .rs1)) (sumOf (regOf x (f .rs2)) (f .value))) x)) where
+  does-sum : Does true (doesOf (f .op) (f .rd) (regOf x (f .rs1)) (regOf x (f .rs2)) (f .value) pc (SSP of w) (s .control) m map) x w m pc' x' w m
+  unfolding doesOf
+  does-sum = rw adds (d .0, d .1, refl, refl)
+
+  pub summed : Turned true pc x w m map pc' x' w m × (getD x' 0 0 ≡ 0) × (pc' % 4 ≡ 0)
+  summed =
+      carried f at pc x w m map s st zero z es r (f .op) (f .rd) (regOf x (f .rs1)) (regOf x (f .rs2)) (f .value) refl refl refl refl refl hb hv true
+      pc' x' w m does-sum refl
 
 -- the setting's mode is the words'
 mode-said : (w : List ℕ) → settingOf w .control .mode ≡ modeOf (MODE of w)

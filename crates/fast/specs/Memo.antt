@@ -2,13 +2,15 @@
 -- Rules 10.9 and 10.10 of docs/HART.md.
 --
 -- Below, nums holds the entries' addresses, then where their words stand in memory, then their forms' numbers, 4,096 each; bytes their forms'
--- registers, rd, rs1 and rs2, 4,096 each, and a flag for each of the 256 frames of memory; ops their forms' operations. s is what the hart's mode and
--- CSRs say, m memory. An empty entry has the address `none`.
+-- registers, rd, rs1 and rs2, and whether each is a sum, 4,096 each, and a flag for each of the 256 frames of memory; ops their forms' operations. s is
+-- what the hart's mode and CSRs say, m memory. An empty entry has the address `none`.
+use mathlib.Core.Bool.{Bool}
 use mathlib.Core.List.{List}
 use mathlib.Core.Logic.{_⊎_}
 use mathlib.Core.Path.{_≡_}
 use Prim.Native.Nat.{ℕ, _+_, _-_, _/_, _%_, _<_}
 use lib.ListN.{length, getD, set}
+use Rattle.word.specs.Choice.{pick}
 use Rattle.isa.specs.declared.Kind.the-variants.{Fetch}
 use Rattle.isa.specs.declared.Width.the-variants.{Word}
 use Rattle.decoder.specs.Decode.{decodeOf}
@@ -45,9 +47,13 @@ formAt nums bytes ops k =
       value = getD nums (k + 8192) 0;
     }
 
+-- 1 where an entry is known to be a sum
+abbrev pub sumAt : (bytes : List ℕ) → (k : ℕ) → ℕ
+sumAt bytes k = getD bytes (k + 12288) 0
+
 -- whether a word was taken from the frame that index i of memory is in
 abbrev pub flagAt : (bytes : List ℕ) → (i : ℕ) → ℕ
-flagAt bytes i = getD bytes (i / 4096 + 12288) 0
+flagAt bytes i = getD bytes (i / 4096 + 16384) 0
 
 -- what was read at pc: the word stands at this index, and the form does what its instruction does
 pub record Read (f : Form) (at pc : ℕ) (s : Setting) (m map : List ℕ) : Type 0 where
@@ -55,10 +61,11 @@ pub record Read (f : Form) (at pc : ℕ) (s : Setting) (m map : List ℕ) : Type
   pub means : Means f (decodeOf (loadOf m at 4)) (loadOf m at 4) pc s
   pub small : (f .rd < 32) × (f .rs1 < 32) × (f .rs2 < 32)
 
--- an entry is that of its address, was read there, and its frame is known to have one
+-- an entry is that of its address, was read there, adds if it is said to be a sum, and its frame is known to have one
 pub record Stands (nums bytes : List ℕ) (ops : List Op) (k : ℕ) (s : Setting) (m map : List ℕ) : Type 0 where
   pub slot : slotOf (tagAt nums k) ≡ k
   pub read : Read (formAt nums bytes ops k) (indexAt nums k) (tagAt nums k) s m map
+  pub sum : sumAt bytes k ≡ 1 → getD ops k Add ≡ Add
   pub flag : flagAt bytes (indexAt nums k) ≡ 1
 
 -- each entry that is not empty stands
@@ -69,9 +76,16 @@ Holds nums bytes ops s m map = (k : ℕ) → k < 4096 → (tagAt nums k ≡ none
 abbrev pub numsWith : (nums : List ℕ) → (pc at value : ℕ) → List ℕ
 numsWith nums pc at value = set (set (set nums (slotOf pc) pc) (slotOf pc + 4096) at) (slotOf pc + 8192) value
 
-abbrev pub bytesWith : (bytes : List ℕ) → (pc at : ℕ) → Form → List ℕ
-bytesWith bytes pc at f =
-    set (set (set (set bytes (slotOf pc) (f .rd)) (slotOf pc + 4096) (f .rs1)) (slotOf pc + 8192) (f .rs2)) (at / 4096 + 12288) 1
+abbrev pub bytesWith : (bytes : List ℕ) → (pc at sum : ℕ) → Form → List ℕ
+bytesWith bytes pc at sum f =
+    set (set (set (set (set bytes (slotOf pc) (f .rd)) (slotOf pc + 4096) (f .rs1)) (slotOf pc + 8192) (f .rs2)) (slotOf pc + 12288) sum)
+    (at / 4096 + 16384) 1
+
+-- where something was read, the bytes have its entry, which is said to be a sum only if it adds; and else they are as they were
+pub record Filled (there : Bool) (bytes : List ℕ) (pc at : ℕ) (f : Form) (bytes' : List ℕ) : Type 0 where
+  pub sum : ℕ
+  pub told : sum ≡ 1 → f .op ≡ Add
+  pub stored : bytes' ≡ pick there (bytesWith bytes pc at sum f) bytes
 
 -- the entries are as they were, but for some that were emptied
 abbrev pub Fewer : (nums nums' : List ℕ) → Type 0

@@ -25,10 +25,11 @@ ghost use mathlib.Core.Path.{_≡_};
 ghost use Prim.Native.Nat.{ℕ, _+_, _/_, _%_, _^_, _<_, _≤_};
 ghost use lib.ListN.{length, getD};
 ghost use Rattle.word.specs.Choice.{pick};
+ghost use Rattle.word.specs.Sum.{sumOf};
 ghost use Rattle.decoder.specs.Decode.{decodeOf};
 ghost use Rattle.memory.specs.Bytes.{loadOf};
 ghost use Rattle.status.specs.Mode.{modeOf};
-ghost use Rattle.effect.specs.Register.{regOf};
+ghost use Rattle.effect.specs.Register.{regOf, putOf};
 ghost use Rattle.regime.specs.declared.Setting as setting;
 ghost use Rattle.meaning.specs.Instruction.{nextOf, executeOf};
 ghost use Rattle.words.specs.Words.{_of_, MODE};
@@ -37,8 +38,10 @@ ghost use Rattle.meaning.specs.declared.Source.the-variants.{Fetch};
 ghost use Rattle.words.specs.Setting.{settingOf};
 ghost use Rattle.hart.specs.Hart.{hart};
 ghost use Rattle.hart.specs.Run.{runFrom, Midway};
+ghost use Rattle.form.specs.Form.{Means};
+ghost use Rattle.form.specs.declared.Op.the-variants.{Add};
 ghost use Rattle.glide.specs.Glide.{Straight, Glides};
-ghost use Rattle.fast.specs.Memo.{indexAt, Read, numsWith, bytesWith, Fewer, Clear, AllClear, Emptied};
+ghost use Rattle.fast.specs.Memo.{indexAt, Read, numsWith, Filled, Fewer, Clear, AllClear, Emptied};
 
 // Addresses, indices and numbers of 4,096 entries.
 const NUMS: usize = 12288;
@@ -58,7 +61,8 @@ pub struct Known {
 
 // A word's form. A privileged one has none, so that it need not be decoded.
 fn of_word(w: u32, pc: u64, s: Setting) -> Form
-    ensures { λ r. ⌜ Means r (decodeOf w) w pc s × (r .rd < 32) × (r .rs1 < 32) × (r .rs2 < 32) ⌝ }
+    ensures means { λ r. ⌜ Means r (decodeOf w) w pc s ⌝ }
+    ensures small { λ r. ⌜ (r .rd < 32) × (r .rs1 < 32) × (r .rs2 < 32) ⌝ }
 {
     if privileged(w) {
         return form::left();
@@ -104,16 +108,17 @@ fn sums(op: Op) -> u8
 fn fill(nums: &mut [u64; NUMS], bytes: &mut [u8; BYTES], pc: u64, at: usize, f: Form)
     requires { ⌜ at < 2 ^ 20 ⌝ }
     ensures { λ _. ⌜ (now (nums .exit) ≡ numsWith (now (nums .entry)) pc at (f .value))
-        × (now (bytes .exit) ≡ bytesWith (now (bytes .entry)) pc at f) ⌝ }
+        × Filled true (now (bytes .entry)) pc at f (now (bytes .exit)) ⌝ }
 {
     let k = (pc / 4 % 4096) as usize;
+    let op = f.op;
     nums[k] = pc;
     nums[k + 4096] = at as u64;
     nums[k + 8192] = f.value;
     bytes[k] = f.rd;
     bytes[k + 4096] = f.rs1;
     bytes[k + 8192] = f.rs2;
-    bytes[k + 12288] = sums(f.op);
+    bytes[k + 12288] = sums(op);
     bytes[at / 4096 + 16384] = 1;
 }
 
@@ -134,7 +139,7 @@ fn enter(
     requires { ⌜ length (now mem) ≤ 2 ^ 20 ⌝ }
     ensures read { λ r. ⌜ (r .there ≡ true → (r .at < 2 ^ 20) × Read (r .form) (r .at) pc s (now (mem .entry)) (now (map .entry))) ⌝ }
     ensures nums { λ r. ⌜ now (nums .exit) ≡ pick (r .there) (numsWith (now (nums .entry)) pc (r .at) (r .form .value)) (now (nums .entry)) ⌝ }
-    ensures bytes { λ r. ⌜ now (bytes .exit) ≡ pick (r .there) (bytesWith (now (bytes .entry)) pc (r .at) (r .form)) (now (bytes .entry)) ⌝ }
+    ensures bytes { λ r. ⌜ Filled (r .there) (now (bytes .entry)) pc (r .at) (r .form) (now (bytes .exit)) ⌝ }
     ensures lengths { λ _. ⌜ (length (now (nums .entry)) ≡ 12288) × (length (now (bytes .entry)) ≡ 16640) ⌝ }
 {
     measured(*nums, *bytes);
@@ -210,6 +215,23 @@ fn value(x: &[u64; 32], bytes: &[u8; BYTES], k: usize) -> u64
     x[n]
 }
 
+// The sum of entry k, and pc after it.
+fn added(nums: &[u64; NUMS], bytes: &[u8; BYTES], k: usize, x: &mut [u64; 32], pc: u64) -> u64
+    requires { ⌜ (k < 4096) × (getD (now bytes) k 0 < 32) × (getD (now bytes) (k + 4096) 0 < 32) × (getD (now bytes) (k + 8192) 0 < 32) ⌝ }
+    ensures sum { λ r. ⌜ (r ≡ nextOf pc)
+        × (now (x .exit) ≡ putOf (getD (now (bytes .entry)) k 0)
+        (sumOf (regOf (now (x .entry)) (getD (now (bytes .entry)) (k + 4096) 0))
+        (sumOf (regOf (now (x .entry)) (getD (now (bytes .entry)) (k + 8192) 0)) (getD (now (nums .entry)) (k + 8192) 0)))
+        (now (x .entry))) ⌝ }
+    ensures small { λ _. ⌜ (regOf (now (x .entry)) (getD (now (bytes .entry)) (k + 8192) 0) < 2 ^ 64)
+        × (getD (now (nums .entry)) (k + 8192) 0 < 2 ^ 64) ⌝ }
+{
+    let b = sum::sum(value(x, bytes, k + 8192), number(nums, k + 8192));
+    let v = sum::sum(value(x, bytes, k + 4096), b);
+    let t = act::computed(x, register(bytes, k), v, pc);
+    t.pc
+}
+
 // A trap handler's CSR instruction, whose word is that of entry k. The index is read here and not in the loop, which would keep k + 4096 at hand in
 // every step (docs/SPEED.md).
 fn handled(
@@ -263,10 +285,7 @@ fn steps(
             }
         }
         if bytes[k + 12288] == 1 {
-            let b = sum::sum(value(x, &bytes, k + 8192), number(&nums, k + 8192));
-            let v = sum::sum(value(x, &bytes, k + 4096), b);
-            let t = act::computed(x, register(&bytes, k), v, pc);
-            pc = t.pc;
+            pc = added(&nums, &bytes, k, x, pc);
             left = left - 1;
             continue;
         }

@@ -1,5 +1,6 @@
 -- `fast::enter` meets its contract: what was read stands in the entry, and where nothing was, nothing changes. Assumes nothing.
 use mathlib.Core.Path.{sym, _∙_}
+use native.Mathlib.Omega.{arith}
 use Rattle.word.proofs.Choices.{first, second}
 use Rattle.fast.specs.Memo.{numsWith, bytesWith}
 use borrow.Author.Needs.{needs}
@@ -23,8 +24,12 @@ returns c =
         c .fill .ensures .0
             ∙ sym (first there (numsWith (a .nums .now) (a .pc) at (f .value)) (a .nums .now) (b .if1 .taken)),
         (
-          c .fill .ensures .1
-              ∙ sym (first there (bytesWith (a .bytes .now) (a .pc) at f) (a .bytes .now) (b .if1 .taken)),
+          record {
+            sum = c .fill .ensures .1 .sum;
+            told = c .fill .ensures .1 .told;
+            stored = c .fill .ensures .1 .stored
+                ∙ sym (first there (bytesWith (a .bytes .now) (a .pc) at (c .fill .ensures .1 .sum) f) (a .bytes .now) (b .if1 .taken));
+          },
           z .measured .ensures,
         ),
       ),
@@ -41,7 +46,14 @@ returns-2 c =
       r .ensures,
       (
         sym (second there (numsWith (a .nums .now) (a .pc) at (f .value)) (a .nums .now) (c .if1 .left)),
-        (sym (second there (bytesWith (a .bytes .now) (a .pc) at f) (a .bytes .now) (c .if1 .left)), z .measured .ensures),
+        (
+          record {
+            sum = 0;
+            told = λ e. absurd (omega (arith, e));
+            stored = sym (second there (bytesWith (a .bytes .now) (a .pc) at 0 f) (a .bytes .now) (c .if1 .left));
+          },
+          z .measured .ensures,
+        ),
       ),
     )
 

@@ -27,14 +27,13 @@ word-requires c κs =
 
 returns : tie.Need-returns
 returns c =
-    let i = c .before .before .before in
+    let i = c .before .before in
     let q = i .before .before .q .given in
     let t = i .before .before .before .before in
     let s = t .before .before .before .before in
     let a = s .args in
-    λ e. found (c .formed .result) (c .before .decode .result) (i .index .result) (c .before .before .word .result) (a .pc) (a .s) (a .mem .now)
-    (a .map .now) (q .0 .0) (sym (t .fetch .ensures) ∙ q .1) (i .index .ensures) (s .pre) (c .before .before .word .ensures)
-    (c .before .decode .ensures) (c .formed .ensures .0) (c .formed .ensures .1)
+    λ e. found (c .of-word .result) (i .index .result) (c .before .word .result) (a .pc) (a .s) (a .mem .now) (a .map .now) (q .0 .0)
+    (sym (t .fetch .ensures) ∙ q .1) (i .index .ensures) (s .pre) (c .before .word .ensures) (c .of-word .ensures .0) (c .of-word .ensures .1)
 
 returns-2 : tie.Need-returns-2
 returns-2 c = λ e. absurd (true≢false (sym e))
@@ -48,7 +47,7 @@ read-spec =
     index-requires
     word-requires
     (λ c κs. search needs)
-    (λ c κs. search needs)
     (λ c. search needs)
+    (λ c κs. search needs)
     returns
     returns-2)

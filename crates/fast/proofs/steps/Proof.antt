@@ -22,8 +22,8 @@ use Rattle.fast.specs.Memo.{none, slotOf, indexAt, formAt, Read, Holds}
 use Rattle.fast.proofs.Entries.{blank}
 use Rattle.fast.proofs.Fetched.{reading}
 use Rattle.fast.proofs.Kept.{kept}
-use Rattle.fast.proofs.Ready.{Ready, ready-read, is-ready, made-ready}
-use Rattle.fast.proofs.Turning.{carried, stayed, handled-on, handled-off, returned}
+use Rattle.fast.proofs.Ready.{Ready, ready-read, ready-sum, is-ready, made-ready}
+use Rattle.fast.proofs.Turning.{carried, stayed, summed, handled-on, handled-off, returned}
 use Rattle.fast.proofs.steps.Statement.{statement}
 use Rattle.fast.proofs.steps.Tie as tie
 
@@ -74,7 +74,12 @@ module _ (j : tie.Joined1 Inv-loop μ-loop) where
       ⊎-elim
       (λ w. made-ready (l .nums) (l .bytes) (l .ops) (l .pc) s (l .mem) map (w .4 .result) (j .if1 .nums) (j .if1 .bytes) (j .if1 .ops) (l .inv .5)
       (w .4 .ensures .1 .1 .1 .1) (l .inv .6) (l .inv .8) (w .6 .taken) (w .4 .ensures .0) (w .7 ∙ w .4 .ensures .1 .0)
-      (w .8 ∙ w .4 .ensures .1 .1 .0) (w .9))
+      (record {
+        sum = w .4 .ensures .1 .1 .0 .sum;
+        told = w .4 .ensures .1 .1 .0 .told;
+        stored = w .8 ∙ w .4 .ensures .1 .1 .0 .stored;
+      })
+      (w .9))
       (λ w. is-ready (l .nums) (l .bytes) (l .ops) (l .pc) s (l .mem) map (j .if1 .nums) (j .if1 .bytes) (j .if1 .ops) (l .inv .5) (l .inv .6)
       (l .inv .8) (w .0 .left) (w .1) (w .2) (w .3))
       (j .if1 .came)
@@ -93,19 +98,46 @@ enter-requires c κs =
     let l = c .before .before .before .before .before in
     rw (l .loop .inv .0) (l .before .before .before .pre .0)
 
+added-requires : tie.Need-added-requires Inv-loop μ-loop
+added-requires c κs =
+    let h = read (c .before .before .before .before) .small in
+    (omega arith, h .0, h .1, h .2)
+
+-- after a sum
+loop-again : tie.Need-loop-again Inv-loop μ-loop
+loop-again c =
+    let h = c .before .before .before .before in
+    let j = h .before in
+    let i = loop j .loop in
+    let adds = ready-sum (j .if1 .nums) (j .if1 .bytes) (j .if1 .ops) (i .pc) (s j) (i .mem) (map j) (i .inv .4) (ready j) (h .if3 .taken) in
+    let (t, zero, z) = summed (f j) (indexAt (j .if1 .nums) (k j)) (i .pc) (i .x) (i .w) (i .mem) (map j) (s j) (i .inv .1) (i .inv .3) (i .inv .4)
+    (i .inv .2) (read j) (c .added .ensures .1 .0) (c .added .ensures .1 .1) (c .added .result) (c .added .last .1 .1 .1 .0) adds (c .added .ensures .0) in
+    let n = again _ _ (i .left) Fetch (hartAt (i .pc) (i .x) (i .w)) (i .mem) _ (i .inv .9) (j .before .loop-test .taken) (t .0) in (
+      i .inv .0,
+      t .3,
+      t .4 ∙ i .inv .2,
+      zero,
+      z,
+      ready j .0,
+      ready j .1,
+      i .inv .7,
+      ready j .3,
+      rw (t .1, t .2) at n,
+    )
+
 register-requires : tie.Need-register-requires Inv-loop μ-loop
-register-requires c κs = (omega arith, read (c .before .before) .small .0)
+register-requires c κs = (omega arith, read (c .before .before .before) .small .0)
 
 value-requires : tie.Need-value-requires Inv-loop μ-loop
-value-requires c κs = (omega arith, read (c .before .before .before .before .before) .small .1)
+value-requires c κs = (omega arith, read (c .before .before .before .before .before .before) .small .1)
 
 value-requires-2 : tie.Need-value-requires-2 Inv-loop μ-loop
-value-requires-2 c κs = (omega arith, read (c .before .before .before .before .before .before .before .before) .small .2)
+value-requires-2 c κs = (omega arith, read (c .before .before .before .before .before .before .before .before .before) .small .2)
 
 -- before a form is carried out
 module _ (p : tie.After-pages Inv-loop μ-loop) where
   abbrev joined : tie.Joined1 Inv-loop μ-loop
-  joined = p .before .before .before .before .before .before .before .before .before .before .before .before .before .before .before
+  joined = p .before .before .before .before .before .before .before .before .before .before .before .before .before .before .before .before
 
 act-requires : tie.Need-act-requires Inv-loop μ-loop
 act-requires c κs =
@@ -162,11 +194,11 @@ module _ (a : tie.After-act Inv-loop μ-loop) where
 empty-requires : tie.Need-empty-requires Inv-loop μ-loop
 empty-requires c κs = let a = c .before .before .before .before .before in omega (arith, a .act .ensures .1 .0 .1, most (j a))
 
-loop-again : tie.Need-loop-again Inv-loop μ-loop
-loop-again c =
+loop-again-2 : tie.Need-loop-again-2 Inv-loop μ-loop
+loop-again-2 c =
     let a = c .before .before .before .before .before .before in
     let i = l a .loop in
-    let (t, zero, z) = done a (c .before .before .before .if3 .taken) in
+    let (t, zero, z) = done a (c .before .before .before .if4 .taken) in
     let n = again _ _ (i .left) Fetch (hartAt (i .pc) (i .x) (i .w)) (i .mem) _ (i .inv .9) (j a .before .loop-test .taken) (t .0) in (
       len a ∙ i .inv .0,
       t .3,
@@ -190,14 +222,14 @@ handled-requires c κs =
 
 -- after a word that its form left
 module _ (h : tie.After-handled Inv-loop μ-loop) where
-  abbrev e : tie.Else3 Inv-loop μ-loop
+  abbrev e : tie.Else4 Inv-loop μ-loop
   e = h .before .before .before .before .before
 
   abbrev b : tie.After-act Inv-loop μ-loop
   b = e .before .before .before
 
   same : (x' b ≡ l b .loop .x) × (w' b ≡ l b .loop .w) × (m' b ≡ l b .loop .mem)
-  same = undone b (e .if3 .left)
+  same = undone b (e .if4 .left)
 
   abbrev x'' : List ℕ
   x'' = h .handled .last .1 .1 .1 .0
@@ -221,12 +253,12 @@ module _ (h : tie.After-handled Inv-loop μ-loop) where
       (i .inv .2) (read (j b)) (x' b) (w' b) (m' b) _ (same .0) (same .1) (same .2) refl (h .handled .result) x'' w''
       (h .handled .ensures)
 
-loop-again-2 : tie.Need-loop-again-2 Inv-loop μ-loop
-loop-again-2 c =
+loop-again-3 : tie.Need-loop-again-3 Inv-loop μ-loop
+loop-again-3 c =
     let h = c .before .before in
     let a = b h in
     let i = l a .loop in
-    let (t, zero) = on h (c .before .if4 .taken) in
+    let (t, zero) = on h (c .before .if5 .taken) in
     let n = again _ _ (i .left) Fetch (hartAt (i .pc) (i .x) (i .w)) (i .mem) _ (i .inv .9) (j a .before .loop-test .taken) (t .0) in (
       len a ∙ i .inv .0,
       t .3,
@@ -255,7 +287,7 @@ returns-2 : tie.Need-returns-2 Inv-loop μ-loop
 returns-2 c =
     let h = c .before in
     let i = l (b h) .loop in
-    let o = off h (c .if4 .left) in
+    let o = off h (c .if5 .left) in
     returned _ _ _ _ (i .x) (i .w) (i .mem) (x'' h) (w'' h) (m' (b h)) _ _ (o .0) (o .1) (same h .2) (i .inv .9)
     (i .inv .2 ∙ l (b h) .before .before .before .pre .2)
 
@@ -279,6 +311,12 @@ steps-spec =
     same-length
     returns
     (λ c. search needs)
+    (λ c. search needs)
+    added-requires
+    (λ c. omega (arith, c .before .before .before .before .before .before .loop-test .taken))
+    (λ c. omega (arith, c .before .before .before .before .before .before .loop-test .taken))
+    loop-again
+    (λ c. search needs)
     register-requires
     (λ c. search needs)
     value-requires
@@ -290,12 +328,12 @@ steps-spec =
     empty-requires
     (λ c. omega (arith, j (c .before .before .before .before .before .before) .before .loop-test .taken))
     (λ c. omega (arith, j (c .before .before .before .before .before .before) .before .loop-test .taken))
-    loop-again
+    loop-again-2
     handled-requires
     (λ c κs. search needs)
     (λ c. omega (arith, j (b (c .before .before)) .before .loop-test .taken))
     (λ c. omega (arith, j (b (c .before .before)) .before .loop-test .taken))
-    loop-again-2
+    loop-again-3
     same-length-2
     returns-2
     same-length-3

@@ -1,168 +1,90 @@
--- `run::run` meets its contract: what is left after each turn, run, gives the whole. Assumes nothing.
-use mathlib.Core.Bool.{true, false}
-use mathlib.Core.Path.{_≡_, refl, sym, _∙_}
-use Prim.Native.Nat.{_-_, _<_}
-use lib.ListN.{length}
+-- `run::run` meets its contract: the first steps, and then the others. Assumes nothing.
+use Prim.Native.Nat.{ℕ, _-_, _<_, _≤_}
 use native.Mathlib.Omega.{arith}
 use borrow.Author.Needs.{needs}
-use Rattle.words.specs.Setting.{settingOf}
-use Rattle.meaning.specs.Context.{Knows}
-use Rattle.hart.specs.Hart.{hart}
-use Rattle.hart.specs.Run.{Run, runFrom, Midway}
-use Rattle.hart.specs.declared.Hart.{Hart}
 use Rattle.meaning.specs.declared.Source.the-variants.{Fetch}
-use Rattle.hart.proofs.Turns.{start, joined, goes-on, ends, spent}
+use Rattle.hart.specs.Hart.{hart}
+use Rattle.hart.specs.declared.Hart.{Hart}
+use Rattle.engine.proofs.Parts.{told-within, ends-first, ends-there, ends-later}
 use Rattle.engine.proofs.run.run.Statement.{statement}
 use Rattle.engine.proofs.run.run.Tie as tie
 
--- memory keeps its length, the setting is that of the words, and what is left, run, gives the whole
-abbrev Inv-loop : tie.InvT-loop
-Inv-loop x₀ w₀ mem₀ map budget from₀ left₀ k₀ wait₀ x w mem from left k wait =
-    (length mem ≡ length mem₀) × Knows k (settingOf w) × Midway (runFrom from₀ budget (hart x₀ w₀) mem₀ map) budget left from (hart x w) mem map
+-- after the first steps: how many they are, and where they ended
+module _ (o : tie.After-short) where
+  abbrev given : tie.After-few
+  given = o .before .before .before .before
 
-abbrev μ-loop : tie.MeasureT-loop
-μ-loop x₀ w₀ mem₀ map budget from₀ left₀ k₀ wait₀ x w mem from left k wait = left
+  abbrev first : tie.Start
+  first = given .before .before .before
 
-loop-holds : tie.Need-loop-holds Inv-loop μ-loop
-loop-holds c = (refl, c .known .ensures, start _ _ _ _ _)
+  abbrev steps : ℕ
+  steps = given .few .result
 
-go-requires : tie.Need-go-requires Inv-loop μ-loop
-go-requires c κs =
-    let l = c .before .before .before .before in
-    (rw (l .loop .inv .0) (l .before .before .before .before .before .pre), l .loop .inv .1)
+  abbrev stands : Hart
+  stands = hart (first .args .x .now) (first .args .w .now)
 
--- after the quick way and the fast path: memory's length, and what is left of the whole
-module _ (g : tie.After-go Inv-loop μ-loop) where
-  abbrev loop : tie.At-loop Inv-loop μ-loop
-  loop = g .before .before .before .before .before
+  abbrev ran : Hart
+  ran = hart (o .short .last .0) (o .short .last .1 .0)
 
-  abbrev first : tie.Start Inv-loop μ-loop
-  first = loop .before .before .before .before .before
+  le : steps ≤ first .args .budget
+  le = given .few .ensures .0
 
-  abbrev whole : Run
-  whole =
-      let a = first .args in
-      runFrom (a .source) (a .budget) (hart (a .x .now) (a .w .now)) (a .mem .now) (a .map .now)
-
-  abbrev glided : Hart
-  glided = hart (g .go .last .0) (g .go .last .1 .0)
-
-  len : length (g .go .last .1 .1 .1 .1 .0) ≡ length (first .args .mem .now)
-  len = g .go .kept .1 .1 .1 .1 .0 ∙ loop .loop .inv .0
-
-  midway : Midway whole (first .args .budget) (g .go .result .left) (loop .loop .from) glided (g .go .last .1 .1 .1 .1 .0) (first .args .map .now)
-  midway =
-      let l = loop .loop in
-      joined _ _ (l .left) _ (l .from) (hart (l .x) (l .w)) glided (l .mem) (g .go .last .1 .1 .1 .1 .0) _ (l .inv .2) (g .go .ensures .0)
-
--- after a step the slow way: the same, and how the run goes on or ends
-module _ (o : tie.After-one Inv-loop μ-loop) where
-  abbrev before : tie.After-go Inv-loop μ-loop
-  before = o .before .before .before .before .before .before .before
-
-  some : 0 < before .go .result .left
-  some = omega (arith, o .before .before .before .before .if1 .left)
-
-  step-len : length (o .one .last .1 .1 .1 .1 .0) ≡ length (first before .args .mem .now)
-  step-len = o .one .kept .1 .1 .1 .1 .0 ∙ len before
-
-  onward : o .one .result .trapped ≡ false
-      → Midway (whole before) (first before .args .budget) (before .go .result .left - 1) Fetch (hart (o .one .last .0) (o .one .last .1 .0))
-      (o .one .last .1 .1 .1 .1 .0) (first before .args .map .now)
-  onward q =
-      let e = o .one .ensures in
-      goes-on _ _ _ _ (glided before) (before .go .last .1 .1 .1 .1 .0) _ (midway before) some _ _ _ _ _ (e .0) (e .1 .0) (e .1 .1 .0)
-      (e .1 .1 .1 .0 .0) (e .1 .1 .1 .0 .1) q
-
-  last : o .one .result .trapped ≡ true
-      → whole before
-      ≡ record {
-        hart = hart (o .one .last .0) (o .one .last .1 .0);
-        memory = o .one .last .1 .1 .1 .1 .0;
-        count = first before .args .budget - (before .go .result .left - 1);
-        trapped = true;
-        cause = o .one .result .cause;
-      }
-  last q =
-      let e = o .one .ensures in
-      ends _ _ _ _ (glided before) (before .go .last .1 .1 .1 .1 .0) _ (midway before) some _ _ _ _ _ (e .0) (e .1 .0) (e .1 .1 .0)
-      (e .1 .1 .1 .0 .0) (e .1 .1 .1 .0 .1) q
-
-  kept : o .one .result .switched ≡ false → Knows (loop before .loop .k) (settingOf (o .one .last .1 .0))
-  kept q = rw (o .one .ensures .1 .1 .1 .1 q, before .go .ensures .1) (loop before .loop .inv .1)
-
-returns : tie.Need-returns Inv-loop μ-loop
+returns : tie.Need-returns
 returns c =
-    let g = c .before .before .before .before in
-    rw (spent _ _ _ _ (glided g) _ _ (midway g) (omega (arith, c .before .if1 .taken)), c .report .ensures) (refl, (refl, refl))
+    let o = c .before .before .before in
+    let a = first o .args in
+    ends-first (a .source) (a .budget) (steps o) (stands o) (a .mem .now) (a .map .now) (le o) (o .short .result) (ran o) (o .short .last .1 .1 .1 .0)
+    (o .short .ensures) (c .if1 .taken)
 
-one-requires : tie.Need-one-requires Inv-loop μ-loop
-one-requires c κs =
-    let g = c .before .before .before .before .before .before in
-    (rw (len g) (first g .pre), loop g .loop .inv .1 .0 ∙ sym (g .go .ensures .1))
-
-returns-2 : tie.Need-returns-2 Inv-loop μ-loop
+returns-2 : tie.Need-returns-2
 returns-2 c =
     let o = c .before .before .before .before in
-    rw (last o (c .before .if2 .taken), c .report2 .ensures) (refl, (refl, refl))
+    let a = first o .args in
+    ends-there (a .source) (a .budget) (steps o) (stands o) (a .mem .now) (a .map .now) (le o) (o .short .result) (ran o) (o .short .last .1 .1 .1 .0)
+    (o .short .ensures) (c .if2 .taken)
 
-loop-again : tie.Need-loop-again Inv-loop μ-loop
-loop-again c =
-    let o = c .before .before .before .before .before .before in
-    (step-len o, c .known2 .ensures, onward o (c .before .before .before .if2 .left))
+-- after the others
+module _ (u : tie.After-long) where
+  abbrev other : tie.Else2
+  other = u .before .before .before .before
 
-again-requires : tie.Need-again-requires Inv-loop μ-loop
-again-requires c κs =
-    let e = c .before .before .before in
-    let o = e .before .before .before .before in
-    (rw (step-len o) (first (before o) .pre), kept o (e .if3 .left) .0)
+  abbrev short : tie.After-short
+  short = other .before .before .before .before
 
-less : tie.Need-loop-less-2 Inv-loop μ-loop
-less c =
-    let q = c .before .before in
-    let o = q .before .before .before .before .before .before .before .before in
-    omega (arith, q .again .ensures .0 .0, some o, before o .go .ensures .0 .0)
+  some : 0 < steps short
+  some = given short .few .ensures .2 (omega (arith, le short, other .if2 .left)) (omega arith)
 
-loop-again-2 : tie.Need-loop-again-2 Inv-loop μ-loop
-loop-again-2 c =
-    let q = c .before .before in
-    let e = q .before .before .before .before in
-    let o = e .before .before .before .before in (
-      q .again .kept .1 .1 .1 .0 ∙ step-len o,
-      rw (q .again .ensures .1) (kept o (e .if3 .left)),
-      joined _ _ (before o .go .result .left - 1) _ Fetch _ _ _ _ _ (onward o (e .before .if2 .left)) (q .again .ensures .0),
-    )
+  fewer : u .long .result .count ≤ first short .args .budget - steps short
+  fewer =
+      told-within (first short .args .budget - steps short) Fetch (ran short) (short .short .last .1 .1 .1 .0) (first short .args .map .now)
+      (u .long .result) (u .long .ensures .0)
 
-returns-3 : tie.Need-returns-3 Inv-loop μ-loop
+add-report : tie.Need-add-report
+add-report c =
+    let u = c .before .before .before in
+    omega (arith, fewer u, le (short u), first (short u) .fits .budget .fits)
+
+returns-3 : tie.Need-returns-3
 returns-3 c =
-    let l = c .before .before .loop in
-    rw (spent _ _ (l .left) (l .from) (hart (l .x) (l .w)) (l .mem) _ (l .inv .2) (c .before .loop-test .left), c .report3 .ensures)
-    (refl, (refl, refl))
+    let u = c .before .before .before .before in
+    let o = short u in
+    let a = first o .args in
+    ends-later (a .source) (a .budget) (steps o) (stands o) (a .mem .now) (a .map .now) (le o) (o .short .result) (ran o) (o .short .last .1 .1 .1 .0)
+    (o .short .ensures) (some u) (other u .before .if1 .left) (u .long .result) (c .report .result) _ _ (u .long .ensures) (c .report .ensures)
 
 pub run-spec : {M : Type 1} → statement M
 run-spec =
     tie.close
     (tie.spec
-    Inv-loop
-    μ-loop
     (λ c κs. search needs)
-    loop-holds
-    go-requires
     (λ c κs. search needs)
-    (λ c. len (c .before .before .before .before))
+    (λ c. search needs)
     returns
-    one-requires
-    (λ c. omega (arith, c .before .before .before .before .before .before .if1 .left))
     (λ c. search needs)
-    (λ c κs. search needs)
-    (λ c. step-len (c .before .before .before .before))
     returns-2
+    (λ c. search needs)
+    (λ c κs. search needs)
+    add-report
     (λ c κs. search needs)
     (λ c. search needs)
-    loop-again
-    again-requires
-    less
-    loop-again-2
-    (λ c κs. search needs)
-    (λ c. c .before .before .loop .inv .0)
     returns-3)
