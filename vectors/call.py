@@ -18,7 +18,7 @@ what changes, in the hart and in memory, in the same form; everything else stays
     next                         pc rises by 4
     nothing                      nothing changes
     count=NUMBER                 the steps taken; a step's 1 is not written
-    traps MODE CAUSE TVAL        the call trapped, to M or S. It stands for the fields that document 01 names under "Trap":
+    traps MODE CAUSE TVAL        the call trapped, to M or S. It stands for the fields that rules 6.2 to 6.4 of docs/HART.md name:
                                  pc is that of mtvec or stvec, and what was pc, mode, the interrupt enable and ELP is saved
     from=PC                      the pc that such a trap saves, where steps were taken before it
     trapped=CAUSE                the call trapped, and each field that changed is named

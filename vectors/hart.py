@@ -15,7 +15,7 @@ CSRS = ["stvec", "senvcfg", "sscratch", "sepc", "scause", "stval", "satp", "msta
         "medeleg", "mtvec", "menvcfg", "mscratch", "mepc", "mcause", "mtval", "mseccfg"]
 REGISTERS = [f"x{n}" for n in range(32)]
 PARTS = ["pc"] + REGISTERS + ["mode", "elp", "ssp"] + CSRS
-# The fields of document 01: of each its lowest bit and how many bits it has.
+# The fields of chapter 5 of docs/HART.md: of each its lowest bit and how many bits it has.
 ENVCFG = {"LPE": (2, 1), "SSE": (3, 1), "PMM": (32, 2)}
 FIELDS = {
     "mstatus": {"SIE": (1, 1), "MIE": (3, 1), "SPIE": (5, 1), "MPIE": (7, 1), "SPP": (8, 1), "MPP": (11, 2), "MPRV": (17, 1),

@@ -1,4 +1,4 @@
--- Request A2: where masking is lifted, and that nothing else of step 2 has changed.
+-- Rule 7.2 e: where masking is lifted, and that everywhere else the rest of rule 7.2 holds.
 -- Assumes nothing.
 use mathlib.Core.Bool.{Bool, true, false}
 use mathlib.Core.Path.{_≡_, refl}

@@ -43,7 +43,7 @@ pagedOf User sv39 = sv39
 pagedOf Supervisor sv39 = sv39
 pagedOf Machine sv39 = false
 
--- in M with MPRV and MXR both set, whatever MPP is (request A2)
+-- in M with MPRV and MXR both set, whatever MPP is (rule 7.2 e)
 abbrev pub liftedOf : (mode : Mode) → (mprv mxr : Bool) → Bool
 liftedOf User mprv mxr = false
 liftedOf Supervisor mprv mxr = false

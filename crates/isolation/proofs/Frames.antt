@@ -1,6 +1,6 @@
 -- In user mode under Sv39 an access only reaches named frames, and writes only where an entry with W names them: the one layer that knows
--- pages. All that the others know of translation is `Covers`, `Writes` and `same-place`, so another way to find a leaf (requests A5, A9, A10,
--- A11) touches this file alone.
+-- pages. All that the others know of translation is `Covers`, `Writes` and `same-place`, so another way to find a leaf
+-- touches this file alone.
 -- Assumes nothing.
 use mathlib.Core.Bool.{true, true≢false}
 use mathlib.Core.List.{List}
@@ -44,8 +44,8 @@ Writes c map To =
 abbrev pub Writable : Control → (e : ℕ) → Type 0
 Writable c e = Taken c e × (leafOf e .w ≡ true)
 
--- where an access goes hangs on memory by its length alone, so in memories that are alike it goes to one place. (With A11 it hangs on the
--- tables too, which are then among the bytes that are the same.)
+-- where an access goes hangs on memory by its length alone, so in memories that are alike it goes to one place. (With page tables in memory
+-- it would hang on them too, which would then be among the bytes that are the same.)
 pub same-place : (Of : (o : ℕ) → Type 0) (m n : List ℕ) → Alike Of m n → (c : Control) (k : Kind) (w : Width) (a : ℕ) (map : List ℕ)
     → placeOf c k w a map (length m) ≡ placeOf c k w a map (length n)
 same-place Of m n A c k w a map = ap (placeOf c k w a map) (A .long)

@@ -1,4 +1,4 @@
--- Request A13, proved.
+-- What a user program can't see, proved.
 -- Assumes nothing.
 use mathlib.Core.List.{List}
 use mathlib.Core.Path.{_≡_, refl}
@@ -49,7 +49,7 @@ pub isolation : IsolationClaim
 isolation = (by-step-5, by-bits)
 
 -- and more than was asked: what no valid entry with its U bit and W names keeps its bytes too, so a frame that may only be read does.
--- (With A11 this is "written by neither", of table frames that no such leaf names.)
+-- (With page tables in memory this would be "written by neither", of table frames that no such leaf names.)
 pub read-only-kept : (map : List ℕ) (h : Hart) (m : List ℕ) → MODE of h .words ≡ 0 → SATP of h .words / 2 ^ 60 ≡ 8 → (calls : List Call)
     → Keeps (Seen Writable (inForce h) map) m (sessionOf calls h m map .memory)
 read-only-kept map h m u s calls =

@@ -1,4 +1,4 @@
--- The statement's words once more, in forms that a reader may look for: "differ only in", a single run, and, for A11, a frame that is named by
+-- The statement's words once more, in forms that a reader may look for: "differ only in", a single run, and a frame that is named by
 -- a virtual page in place of an entry.
 -- Assumes nothing.
 use mathlib.Core.Bool.{Bool, true, false, true≢false}

@@ -1,4 +1,4 @@
--- Each hypothesis of request A13 earns its place: a start that meets the others and not this one, and a call after which a register of the one
+-- Each hypothesis of the theorem earns its place: a start that meets the others and not this one, and a call after which a register of the one
 -- hart holds what the other's does not. The word is ld x6, 0(x3).
 -- Assumes nothing.
 use mathlib.Core.Bool.{true}

@@ -1,4 +1,4 @@
--- Request A13 is not empty: a hart, a map and two memories that meet the hypotheses and do differ, and a run from there that loads, stores and
+-- The theorem is not empty: a hart, a map and two memories that meet the hypotheses and do differ, and a run from there that loads, stores and
 -- is stopped at the other supplier's page. It is computed in the one memory; what it answers in the other one the theorem says.
 -- The map has every odd kind of entry too: one whose frame lies outside memory, one with V and U and no right, and one without U that
 -- names a frame which another one names with U.

@@ -1,4 +1,4 @@
--- Request A13: what a user program can't see. This file is the statement and nothing else; proofs/Isolation.antt proves it,
+-- What a user program can't see. This file is the statement and nothing else; proofs/Isolation.antt proves it,
 -- docs/ISOLATION.md explains it, and it is rules 13.11 to 13.15 of docs/HART.md. The user's words:
 --
 --   Take two runs from the same user-mode hart with Sv39 on and the same map, with memories of the same length that differ only in
@@ -85,15 +85,15 @@ sessionOf (c ∷ cs) h m map =
     (sessionOf cs (callOf c h m map .answer .hart) (callOf c h m map .memory) map)
 
 module _ (Valid : Control → (e : ℕ) → Type 0) (map : List ℕ) (h : Hart) (m n : List ℕ) where
-  -- "from the same user-mode hart with Sv39 on and the same map, with memories .." (with A11: and the table frames are equal; with
-  -- A6: and the logs are equal)
+  -- "from the same user-mode hart with Sv39 on and the same map, with memories .."; docs/ISOLATION.md says what
+  -- page tables in memory, or more in an answer, would add here
   pub record IsolationStarts : Type 0 where
     pub user : MODE of h .words ≡ 0
     pub sv39 : SATP of h .words / 2 ^ 60 ≡ 8
     pub alike : Alike (Seen Valid (inForce h) map) m n
 
   -- "the harts, counts and trap answers are the same, and every byte of the named frames is the same; the other frames keep their own
-  -- bytes" (with A6: and the logs are the same)
+  -- bytes"
   pub record Unseen (calls : List Call) : Type 0 where
     pub answers : sessionOf calls h m map .answers ≡ sessionOf calls h n map .answers
     pub named : Alike (Seen Valid (inForce h) map) (sessionOf calls h m map .memory) (sessionOf calls h n map .memory)

@@ -1,6 +1,6 @@
 -- Two outcomes that satisfy one promise are equal. Each promise says of each part of an outcome (the result, what is left in each
 -- lent place) that it is a definition's value; the lemma is over any type, so it serves every such part of every public function
--- (docs/PROMISES.md lists them). `one-outcome` puts the two parts of a call together.
+-- (docs/CONTRACTS.md lists them). `one-outcome` puts the two parts of a call together.
 -- Assumes nothing.
 use mathlib.Core.Path.{_≡_, sym, _∙_}
 use Rattle.call.specs.Call.{Called}

@@ -1,5 +1,5 @@
 -- What is in force where a hart takes a step: the regime of its accesses, the entries of the map, and which of their leaves are pages. The
--- statements of demand 3 (`shadow`) and of request A13 (`isolation`) both speak of it. Rules 13.3 and 13.13 of docs/HART.md.
+-- statements of `shadow` and of `isolation` both speak of it. Rules 13.3 and 13.13 of docs/HART.md.
 --
 -- Below, h is the hart, map the page map, c the regime in force.
 use mathlib.Core.Bool.{true}

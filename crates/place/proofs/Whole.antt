@@ -1,4 +1,4 @@
--- Request A2: where masking is lifted, the address as the program gives it is what steps 3 to 9 go by, and so what a fault's tval tells.
+-- Rule 7.2 e: where masking is lifted, the address as the program gives it is what rules 7.3 to 7.9 go by, and so what a fault's tval tells.
 -- Assumes nothing.
 use mathlib.Core.Bool.{true}
 use mathlib.Core.List.{List}

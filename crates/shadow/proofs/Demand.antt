@@ -1,6 +1,6 @@
--- Demand 3, proved: each stretch keeps its promise. `promised` asks for less than the user's words give (`Enough`): of an accepted state only
--- that all words are there and ssp is a multiple of 8; and not menvcfg's enable, since a pop-check whose access is permitted is one to a
--- shadow page, and without that enable there is none.
+-- The shadow stack's promise, proved: each stretch keeps its promise. `promised` asks for less than the user's words give (`Enough`): of an
+-- accepted state only that all words are there and ssp is a multiple of 8; and not menvcfg's enable, since a pop-check whose access is
+-- permitted is one to a shadow page, and without that enable there is none.
 -- Assumes nothing.
 use mathlib.Core.Bool.{Bool, true, false, true≢false}
 use mathlib.Core.List.{List}

@@ -1,4 +1,4 @@
--- Each hypothesis of demand 3 earns its place: a start that meets all the others and not this one, and a step from there, or none, after
+-- Each hypothesis of the promise earns its place: a start that meets all the others and not this one, and a step from there, or none, after
 -- which the promise is broken. The starts are the witness's, changed in one thing (and x2, where the word needs an address); a step
 -- has a given word. Not here: menvcfg's enable, since the theorem does without it.
 -- Assumes nothing.

@@ -1,4 +1,4 @@
--- Demand 3 is not empty: a hart, memory and map that meet its hypotheses, and a stretch from there with pushes, pops that match them, a pop
+-- The promise is not empty: a hart, memory and map that meet its hypotheses, and a stretch from there with pushes, pops that match them, a pop
 -- below the start and a mismatch, which traps. Every step fetches, so the stretch is also a run (WitnessRun.antt). All of it is computed.
 -- Assumes nothing.
 use mathlib.Core.Bool.{true, false, false≢true, and-false}

@@ -1,4 +1,4 @@
--- Demand 3: the shadow stack keeps its promise. This file is the statement and nothing else; proofs/Demand.antt proves it, docs/SHADOW.md
+-- The shadow stack keeps its promise. This file is the statement and nothing else; proofs/Demand.antt proves it, docs/SHADOW.md
 -- explains it, and it is rules 13.2 to 13.8 of docs/HART.md. The user's words:
 --
 --   Start in user mode with Sv39 and both shadow-stack enables on, and let each frame of a valid shadow page stand in one entry of
