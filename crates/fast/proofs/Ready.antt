@@ -12,7 +12,7 @@ use Rattle.word.specs.Choice.{pick}
 use Rattle.regime.specs.declared.Setting.{Setting}
 use Rattle.form.specs.declared.Op.{Op}
 use Rattle.form.specs.declared.Op.the-variants.{Add}
-use Rattle.fast.specs.Memo.{none, slotOf, tagAt, indexAt, formAt, sumAt, Read, Stands, Holds, numsWith, bytesWith, Filled}
+use Rattle.fast.specs.Memo.{none, slotOf, tagAt, indexAt, formAt, sumAt, Read, Stands, Holds, numsWith, bytesWith, Entered}
 use Rattle.fast.specs.declared.Known.{Known}
 use Rattle.fast.proofs.Entries.{entered}
 
@@ -62,7 +62,7 @@ pub made-ready : (nums bytes : List ℕ) (ops : List Op) (pc : ℕ) (s : Setting
     → length nums ≡ 12288 → length bytes ≡ 16640 → length ops ≡ 4096 → Holds nums bytes ops s m map → e .there ≡ true
     → (e .there ≡ true → (e .at < 2 ^ 20) × Read (e .form) (e .at) pc s m map)
     → nums' ≡ pick (e .there) (numsWith nums pc (e .at) (e .form .value)) nums
-    → Filled (e .there) bytes pc (e .at) (e .form) bytes' → ops' ≡ set ops (slotOf pc) (e .form .op)
+    → Entered (e .there) bytes pc (e .at) (e .form) bytes' → ops' ≡ set ops (slotOf pc) (e .form .op)
     → Ready nums' bytes' ops' pc s m map
 made-ready nums bytes ops pc s m map e nums' bytes' ops' ln lb lo holds there read en eb eo =
     let fn : nums' ≡ numsWith nums pc (e .at) (e .form .value) = en ∙ first (e .there) _ nums there in

@@ -82,7 +82,7 @@ bytesWith bytes pc at sum f =
     (at / 4096 + 16384) 1
 
 -- where something was read, the bytes have its entry, which is said to be a sum only if it adds; and else they are as they were
-pub record Filled (there : Bool) (bytes : List ℕ) (pc at : ℕ) (f : Form) (bytes' : List ℕ) : Type 0 where
+pub record Entered (there : Bool) (bytes : List ℕ) (pc at : ℕ) (f : Form) (bytes' : List ℕ) : Type 0 where
   pub sum : ℕ
   pub told : sum ≡ 1 → f .op ≡ Add
   pub stored : bytes' ≡ pick there (bytesWith bytes pc at sum f) bytes

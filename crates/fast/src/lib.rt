@@ -41,7 +41,7 @@ ghost use Rattle.hart.specs.Run.{runFrom, Midway};
 ghost use Rattle.form.specs.Form.{Means};
 ghost use Rattle.form.specs.declared.Op.the-variants.{Add};
 ghost use Rattle.glide.specs.Glide.{Straight, Glides};
-ghost use Rattle.fast.specs.Memo.{indexAt, Read, numsWith, Filled, Fewer, Clear, AllClear, Emptied};
+ghost use Rattle.fast.specs.Memo.{indexAt, Read, numsWith, Entered, Fewer, Clear, AllClear, Emptied};
 
 // Addresses, indices and numbers of 4,096 entries.
 const NUMS: usize = 12288;
@@ -108,7 +108,7 @@ fn sums(op: Op) -> u8
 fn fill(nums: &mut [u64; NUMS], bytes: &mut [u8; BYTES], pc: u64, at: usize, f: Form)
     requires { ⌜ at < 2 ^ 20 ⌝ }
     ensures { λ _. ⌜ (now (nums .exit) ≡ numsWith (now (nums .entry)) pc at (f .value))
-        × Filled true (now (bytes .entry)) pc at f (now (bytes .exit)) ⌝ }
+        × Entered true (now (bytes .entry)) pc at f (now (bytes .exit)) ⌝ }
 {
     let k = (pc / 4 % 4096) as usize;
     let op = f.op;
@@ -139,7 +139,7 @@ fn enter(
     requires { ⌜ length (now mem) ≤ 2 ^ 20 ⌝ }
     ensures read { λ r. ⌜ (r .there ≡ true → (r .at < 2 ^ 20) × Read (r .form) (r .at) pc s (now (mem .entry)) (now (map .entry))) ⌝ }
     ensures nums { λ r. ⌜ now (nums .exit) ≡ pick (r .there) (numsWith (now (nums .entry)) pc (r .at) (r .form .value)) (now (nums .entry)) ⌝ }
-    ensures bytes { λ r. ⌜ Filled (r .there) (now (bytes .entry)) pc (r .at) (r .form) (now (bytes .exit)) ⌝ }
+    ensures bytes { λ r. ⌜ Entered (r .there) (now (bytes .entry)) pc (r .at) (r .form) (now (bytes .exit)) ⌝ }
     ensures lengths { λ _. ⌜ (length (now (nums .entry)) ≡ 12288) × (length (now (bytes .entry)) ≡ 16640) ⌝ }
 {
     measured(*nums, *bytes);
