@@ -12,7 +12,7 @@ FORM = "`memory 4096: :0200000480007A LF :00000001FF`"
 ANSWER = "`refused 2`, `refused 6 line 3` or `taken start 0x80000000 0=1305A002`"
 ENDS = {"LF": b"\n", "CRLF": b"\r\n", "CR": b"\r", "nothing": b""}
 FILLING = 0xEE
-# As crates/hexed and crates/lines have it.
+# As crates/test_hexed and crates/test_lines have it.
 MOST_TEXT, MOST_NUMBERS = 1440, 192
 
 

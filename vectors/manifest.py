@@ -78,7 +78,7 @@ def said(given, wanted, remark):
 
 
 def data_path(name):
-    return f"crates/cases/data/{name}.txt"
+    return f"crates/test_cases/data/{name}.txt"
 
 
 def stored(path):

@@ -10,7 +10,7 @@ use Rattle.isa.specs.declared.Kind.{Kind}
 use Rattle.isa.specs.declared.Kind.the-variants.{Fetch, Load, Store, Push, Pop, Swap}
 use Rattle.isa.specs.declared.Mode.{Mode}
 use Rattle.isa.specs.declared.Mode.the-variants.{User, Supervisor, Machine}
-use Rattle.page.specs.declared.Regime.{Regime}
+use Rattle.address_page.specs.declared.Regime.{Regime}
 use Rattle.address.specs.declared.control.Control.{Control}
 
 -- in M with MPRV set, MPP

@@ -1,4 +1,4 @@
-pub mod Access
+pub mod Kind
 pub mod Control
 pub mod Mask
 pub mod Align

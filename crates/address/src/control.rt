@@ -1,8 +1,8 @@
 // Step 1, the effective mode of an access, and what goes by it: which PMM counts, whether Sv39 is in force, and where neither
 // concerns an access; and which accesses are not masked at all.
+use address_page::Regime;
 use isa::Kind;
 use isa::Mode;
-use page::Regime;
 ghost use mathlib.Core.Path.{_≡_};
 ghost use Rattle.address.specs.Control.{underMprv, effectiveOf, effectiveModeOf, pmmOf, pagedOf, liftedOf, unmaskedFor, unmaskedOf, regimeOf, bareOf};
 ghost use Rattle.address.specs.Control.{flatOf};

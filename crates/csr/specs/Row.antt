@@ -5,7 +5,7 @@ use Prim.Native.Nat.{ℕ}
 use lib.Dec.{eqb}
 use Rattle.word.specs.Choice.{pick}
 use Rattle.word.specs.Row.{Field, Any, Only, Place, At, row}
-use Rattle.status.specs.Fields.{bit, hidden, mstatus, sstatus}
+use Rattle.csr_status.specs.Fields.{bit, hidden, mstatus, sstatus}
 use Rattle.csr.specs.declared.Csr.{Csr}
 use Rattle.csr.specs.declared.Csr.the-variants.{Ssp, Sstatus, Stvec, Senvcfg, Sscratch, Sepc, Scause, Stval, Satp, Mstatus, Medeleg, Mtvec}
 use Rattle.csr.specs.declared.Csr.the-variants.{Menvcfg, Mscratch, Mepc, Mcause, Mtval, Mseccfg}

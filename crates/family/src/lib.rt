@@ -1,11 +1,11 @@
 // The decoder's verdict as a number, for who compares decoders word by word (include/sporhulma.h).
 //
 // A static library of its own: the compiler puts `decode` into the run's loop only while that is its one caller.
-use decoder::decode;
+use decode::decode;
 use isa::Access;
 use isa::Instruction;
 ghost use mathlib.Core.Path.{_≡_};
-ghost use Rattle.decoder.specs.Decode.{decodeOf};
+ghost use Rattle.decode.specs.Decode.{decodeOf};
 ghost use Rattle.family.specs.Family.{accessFamily, familyOf};
 
 fn of_access(a: Access) -> u64

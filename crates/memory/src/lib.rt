@@ -1,7 +1,7 @@
 // The bytes behind an address: loads and stores of any width in a lent slice, little-endian.
 //
 // A place in memory is an index here; which address stands for it, and who may use it, is the business
-// of crate `place`.
+// of crate `address_place`.
 use isa::Width;
 use word::sign;
 ghost use mathlib.Core.Path.{_≡_};

@@ -6,7 +6,7 @@ use Rattle.isa.specs.declared.Instruction.{Instruction}
 use Rattle.isa.specs.declared.Instruction.the-variants.{Illegal, Lui, Auipc, Jal, Jalr, Branch, Memory, OpImm, OpImm32, Op, Op32, Fence, Ecall}
 use Rattle.isa.specs.declared.Instruction.the-variants.{Ebreak, Sret, Mret, Csr, ReadSsp, MopR, MopRr}
 use Rattle.family.specs.Family.{familyOf}
-use Rattle.numbers.specs.Numbers.{numbersOf}
+use Rattle.decode_numbers.specs.Numbers.{numbersOf}
 
 pub one-family : (i : Instruction) → numbersOf i .family ≡ familyOf i
 one-family Illegal = refl

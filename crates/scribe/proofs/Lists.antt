@@ -9,15 +9,15 @@ use borrow.Author.Tests.{ne-eqb}
 use lib.ListN.{length, getD, drop, drop-of-length-le}
 use lib.Seq.{drop-cons}
 use Rattle.word.specs.Choice.{look}
-use Rattle.decoder.specs.Decode.{decodeOf}
+use Rattle.decode.specs.Decode.{decodeOf}
 use Rattle.isa.specs.declared.Instruction.{Instruction}
 use Rattle.isa.specs.declared.Instruction.the-variants.{Illegal}
-use Rattle.writer.specs.declared.Written.{Written}
-use Rattle.writer.specs.declared.Written.the-variants.{Word, Refused}
-use Rattle.numbers.specs.declared.Eight.{Eight}
-use Rattle.numbers.specs.Numbers.{numbersOf}
-use Rattle.writer.specs.Promise.{ReadsNumbers, AnswersNumbers}
-use Rattle.numbers.proofs.Again.{no-family}
+use Rattle.decode_writer.specs.declared.Written.{Written}
+use Rattle.decode_writer.specs.declared.Written.the-variants.{Word, Refused}
+use Rattle.decode_numbers.specs.declared.Eight.{Eight}
+use Rattle.decode_numbers.specs.Numbers.{numbersOf}
+use Rattle.decode_writer.specs.Promise.{ReadsNumbers, AnswersNumbers}
+use Rattle.decode_numbers.proofs.Again.{no-family}
 use Rattle.scribe.specs.Words.{eightAt}
 use Rattle.scribe.specs.Boundary.{listOf, readLeft, readResult, readResults, Gives, Wrote}
 

@@ -5,7 +5,7 @@ use mathlib.Core.Logic.{inl, inr}
 use mathlib.Core.Path.{_≡_, refl, sym, _∙_}
 use Prim.Native.Nat.{ℕ, _^_, _<_}
 use native.Mathlib.Omega.{arith}
-use Rattle.writer.proofs.Answer.{packed}
+use Rattle.decode_writer.proofs.Answer.{packed}
 use Rattle.scribe.specs.Words.{eightAt}
 use Rattle.scribe.specs.Boundary.{readLeft, readResult, Gives, Wrote}
 use Rattle.scribe.proofs.Lists.{given}

@@ -4,9 +4,9 @@ use mathlib.Core.Logic.{_⊎_}
 use mathlib.Core.Path.{_≡_}
 use Prim.Native.Nat.{ℕ, _^_, _<_}
 use Rattle.word.specs.Choice.{Table, _⇒_¦_, otherwise, look}
-use Rattle.decoder.specs.Decode.{decodeOf}
-use Rattle.numbers.specs.declared.Eight.{Eight}
-use Rattle.numbers.specs.Numbers.{numbersOf}
+use Rattle.decode.specs.Decode.{decodeOf}
+use Rattle.decode_numbers.specs.declared.Eight.{Eight}
+use Rattle.decode_numbers.specs.Numbers.{numbersOf}
 
 -- family, operation, rd, rs1, rs2, immediate, and the two for what is left
 abbrev pub listOf : Eight → List ℕ

@@ -2,8 +2,8 @@
 use mathlib.Core.List.{List}
 use Prim.Native.Nat.{ℕ}
 use lib.ListN.{getD}
-use Rattle.numbers.specs.declared.Eight.{Eight}
-use Rattle.numbers.specs.Numbers.{eightOf}
+use Rattle.decode_numbers.specs.declared.Eight.{Eight}
+use Rattle.decode_numbers.specs.Numbers.{eightOf}
 
 abbrev pub eightAt : List ℕ → Eight
 eightAt l =

@@ -1,10 +1,10 @@
 // The boundary for C and Rust: an instruction as eight numbers, read from a word and written to one (include/sporhulma.h).
 //
 // A static library of its own: the compiler puts `decode` into the run's loop only while that is its one caller.
-use decoder::decode;
-use numbers::Eight;
-use writer::Written;
-use writer::write_numbers;
+use decode::decode;
+use decode_numbers::Eight;
+use decode_writer::Written;
+use decode_writer::write_numbers;
 ghost use mathlib.Core.Path.{_≡_};
 ghost use lib.ListN.{length};
 ghost use Rattle.scribe.specs.Words.{eightAt};
@@ -36,7 +36,7 @@ pub extern "C" fn sporhulma_read(word: u32, instruction: &mut [u64; 8]) -> u64
     ensures result { λ r. ⌜ r ≡ readResult word ⌝ }
     ensures numbers { λ _. ⌜ now (instruction .exit) ≡ readLeft word ⌝ }
 {
-    let n = numbers::of_instruction(decode(word));
+    let n = decode_numbers::of_instruction(decode(word));
     *instruction = [
         n.family,
         n.operation,

@@ -7,14 +7,14 @@ use Prim.Native.Nat.{ℕ, _<_}
 use native.Mathlib.Omega.{arith}
 use borrow.Author.Tests.{ltb-true}
 use lib.Dec.{eqb}
-use Rattle.meaning.specs.declared.Source.{Source}
-use Rattle.words.specs.Words.{_of_, ELP, flagOf}
-use Rattle.hart.specs.Hart.{hart, legal}
-use Rattle.hart.specs.Run.{Run, runFrom}
-use Rattle.hart.proofs.Steps.{lawful-hart}
-use Rattle.engine.specs.Told.{toldOf}
-use Rattle.engine.specs.declared.run.Told.{Told}
-use Rattle.call.specs.Call.{refusalOf, runRefusalOf, refusedWith, takenWith}
+use Rattle.step_meaning.specs.declared.Source.{Source}
+use Rattle.csr_words.specs.Words.{_of_, ELP, flagOf}
+use Rattle.step_hart.specs.Hart.{hart, legal}
+use Rattle.step_hart.specs.Run.{Run, runFrom}
+use Rattle.step_hart.proofs.Steps.{lawful-hart}
+use Rattle.run_engine.specs.Told.{toldOf}
+use Rattle.run_engine.specs.declared.run.Told.{Told}
+use Rattle.run_call.specs.Call.{refusalOf, runRefusalOf, refusedWith, takenWith}
 use Rattle.sporhulma.specs.Boundary.{leftBy, leftFrom}
 
 module _ (source : Source) (budget : ℕ) (x rest m map : List ℕ) where

@@ -6,11 +6,11 @@ use mathlib.Core.List.{List, [], _∷_}
 use mathlib.Core.Path.{_≡_, refl}
 use Prim.Native.Nat.{ℕ}
 use lib.Dec.{eqb}
-use Rattle.meaning.specs.declared.Source.the-variants.{Fetch, Given}
-use Rattle.hart.specs.Hart.{hart}
-use Rattle.hart.specs.Run.{Run, once, runOf}
-use Rattle.hart.specs.Step.{stepFrom}
-use Rattle.call.specs.Call.{calledOf, refusalOf, runRefusalOf, stepFromCall, runCall}
+use Rattle.step_meaning.specs.declared.Source.the-variants.{Fetch, Given}
+use Rattle.step_hart.specs.Hart.{hart}
+use Rattle.step_hart.specs.Run.{Run, once, runOf}
+use Rattle.step_hart.specs.Step.{stepFrom}
+use Rattle.run_call.specs.Call.{calledOf, refusalOf, runRefusalOf, stepFromCall, runCall}
 use Rattle.hex.specs.Load.{loadHexOf}
 use Rattle.hex.proofs.Kept.{refused-changes-nothing}
 use Rattle.sporhulma.specs.Load.{loadLeft}

@@ -7,13 +7,13 @@ use Prim.Native.Nat.{ℕ}
 use borrow.Author.Tests.{eqb-true}
 use lib.Dec.{eqb}
 use Rattle.word.specs.Choice.{pick}
-use Rattle.meaning.specs.declared.Source.{Source}
-use Rattle.meaning.specs.declared.Source.the-variants.{Fetch, Given}
-use Rattle.hart.specs.Hart.{hart}
-use Rattle.hart.specs.Run.{runFrom}
-use Rattle.hart.specs.declared.Hart.{Hart}
-use Rattle.hart.proofs.Turns.{one-step}
-use Rattle.call.specs.Call.{refusalOf, runRefusalOf, calledOf, stepFromCall, runCall}
+use Rattle.step_meaning.specs.declared.Source.{Source}
+use Rattle.step_meaning.specs.declared.Source.the-variants.{Fetch, Given}
+use Rattle.step_hart.specs.Hart.{hart}
+use Rattle.step_hart.specs.Run.{runFrom}
+use Rattle.step_hart.specs.declared.Hart.{Hart}
+use Rattle.step_hart.proofs.Turns.{one-step}
+use Rattle.run_call.specs.Call.{refusalOf, runRefusalOf, calledOf, stepFromCall, runCall}
 use Rattle.sporhulma.specs.Boundary.{leftBy, stepLeft, stepWordLeft, runLeft, leftFrom}
 
 none-more : (n : ℕ) → pick (eqb n 0) 0 n ≡ n

@@ -1,13 +1,13 @@
--- The calls for C: what each leaves, in every word and byte, through the definitions of crate `call`. Rule 2.12 of docs/HART.md.
+-- The calls for C: what each leaves, in every word and byte, through the definitions of crate `run_call`. Rule 2.12 of docs/HART.md.
 --
 -- Below, x and rest are the words of the hart, m memory, map the page map.
 use mathlib.Core.List.{List, [], _∷_}
 use Prim.Native.Nat.{ℕ}
-use Rattle.meaning.specs.declared.Source.{Source}
-use Rattle.words.specs.Words.{flagOf}
-use Rattle.hart.specs.Run.{runFrom}
-use Rattle.hart.specs.Hart.{hart}
-use Rattle.call.specs.Call.{Called, runRefusalOf, calledOf, stepCall, stepWordCall, runCall}
+use Rattle.step_meaning.specs.declared.Source.{Source}
+use Rattle.csr_words.specs.Words.{flagOf}
+use Rattle.step_hart.specs.Run.{runFrom}
+use Rattle.step_hart.specs.Hart.{hart}
+use Rattle.run_call.specs.Call.{Called, runRefusalOf, calledOf, stepCall, stepWordCall, runCall}
 
 -- what a call leaves: its result, the hart's words, the three words of its answer (count, trapped, cause), and memory
 pub record Left : Type 0 where

@@ -1,12 +1,12 @@
-// The boundary for C and Rust (include/sporhulma.h): the three calls of crate `machine` over words and bytes, and the load of crate `hex`, as a
+// The boundary for C and Rust (include/sporhulma.h): the three calls of crate `run_machine` over words and bytes, and the load of crate `hex`, as a
 // static library.
 //
 // A hart is the words x and rest. Anything may be handed in; what a call leaves of every word and byte is stated in
 // specs/Boundary.antt, and what a load leaves in specs/Load.antt.
-use engine::run;
-use meaning::Source;
-use words::COUNT;
-use words::flag;
+use csr_words::COUNT;
+use csr_words::flag;
+use run_engine::run;
+use step_meaning::Source;
 ghost use mathlib.Core.Path.{_≡_};
 ghost use mathlib.Core.List.{[], _∷_};
 ghost use Rattle.sporhulma.specs.Boundary.{stepLeft, stepWordLeft, runLeft, leftFrom};
@@ -41,7 +41,7 @@ fn call(
     ensures answer { λ _. ⌜ now (answer .exit) ≡ leftFrom source budget (now (x .entry)) (now (rest .entry)) (now (mem .entry))
         (now (map .entry)) .answer ⌝ }
 {
-    let n = call::run_refusal(x, rest, mem, map, budget);
+    let n = run_call::run_refusal(x, rest, mem, map, budget);
     if n == 0 {
         let t = run::run(x, rest, source, mem, map, budget);
         *answer = [t.count, flag(t.trapped), t.cause];

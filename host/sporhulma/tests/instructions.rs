@@ -293,7 +293,7 @@ fn the_indices_are_the_headers() {
 /// The decode cases, whose words come from the GNU assembler and whose numbers were made from the manuals' listings.
 #[test]
 fn the_decode_cases_are_read_and_written() {
-    let cases = include_str!("../../../crates/cases/data/decode.txt");
+    let cases = include_str!("../../../crates/test_cases/data/decode.txt");
     let mut seen = 0;
     for line in cases.lines().filter(|line| !line.starts_with('#')) {
         let (case, _) = line.split_once('#').expect("a case has its text");

@@ -1,10 +1,10 @@
 -- `sporhulma::call` meets its contract: where no refusal applies the run's words, else those that were given. Assumes nothing.
 use borrow.Author.Tests.{ne-eqb}
 use mathlib.Core.Path.{refl, sym, ap, _∙_}
-use Rattle.hart.specs.Hart.{hart}
-use Rattle.hart.specs.Run.{Run, runFrom}
-use Rattle.hart.specs.declared.Hart.{Hart}
-use Rattle.call.proofs.Accepted.{small, run-no-refusal}
+use Rattle.step_hart.specs.Hart.{hart}
+use Rattle.step_hart.specs.Run.{Run, runFrom}
+use Rattle.step_hart.specs.declared.Hart.{Hart}
+use Rattle.run_call.proofs.Accepted.{small, run-no-refusal}
 use Rattle.sporhulma.proofs.Answered.{taken, refused, told}
 use borrow.Author.Needs.{needs}
 use Rattle.sporhulma.proofs.call.Statement.{statement}

@@ -382,7 +382,7 @@ fn edge(place: &str, pc: u64) -> Option<&'static str> {
     }
 }
 
-/// Why the fast path leaves a step to the slow way, and the cause of a trap.
+/// Why the fast path leaves a step to the slow path, and the cause of a trap.
 fn left(step: &Step, word: u32) -> [&'static str; 2] {
     if step.answer.trapped {
         let name = format!("cause {}", step.answer.cause);

@@ -150,7 +150,7 @@ impl Writer<'_> {
         let physical = kind == Kind::Physical;
         let late = self.plan.late;
         let others = kind != Kind::Turning;
-        // A swap goes the slow way, and behind it the fast path begins anew.
+        // A swap takes the slow path, and behind it the fast path begins anew.
         let swaps = others && (!late || self.random.chance(20));
         let fits = |by| match by {
             By::Store(_) => true,

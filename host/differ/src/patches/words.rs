@@ -25,7 +25,7 @@ pub struct Taste {
     pub wild: bool,
     /// Loads and stores in the upper half of the data page alone: code is in the lower one.
     pub upper: bool,
-    /// No pushes, which would use their page up, and nothing that the fast path leaves to the slow way.
+    /// No pushes, which would use their page up, and nothing that the fast path leaves to the slow path.
     pub late: bool,
     /// The mode that they are run in.
     pub mode: u64,

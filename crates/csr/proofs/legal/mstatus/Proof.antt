@@ -1,9 +1,9 @@
 -- `csr::legal::mstatus` meets its contract: a write of the word leaves it. Assumes nothing.
 use mathlib.Core.Path.{refl}
 use native.Mathlib.Omega.{arith}
-use Rattle.status.specs.Fields.{mstatus}
+use Rattle.csr_status.specs.Fields.{mstatus}
 use Rattle.word.proofs.Rows.{passes}
-use Rattle.status.proofs.Packed.{start}
+use Rattle.csr_status.proofs.Packed.{start}
 use borrow.Author.Needs.{needs}
 use Rattle.csr.proofs.legal.mstatus.Statement.{statement}
 use Rattle.csr.proofs.legal.mstatus.Tie as tie

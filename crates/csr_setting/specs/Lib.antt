@@ -1,0 +1,3 @@
+pub mod Regime
+pub mod Reach
+pub mod Legal

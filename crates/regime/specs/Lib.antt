@@ -1,3 +1,0 @@
-pub mod Regime
-pub mod Access
-pub mod Legal
