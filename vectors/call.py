@@ -24,7 +24,7 @@ what changes, in the hart and in memory, in the same form; everything else stays
     trapped=CAUSE                the call trapped, and each field that changed is named
 
 A line of the data is `call argument length hart made page leaf words word .. offset content .. = refusal count trapped cause
-hart offset content ..`: crates/test_scene/src/lib.rt and crates/test_cases/src/calls.rt say what each is. Nothing is computed here but where a field lies and
+hart offset content ..`: crates/test_scene/src/lib.rt and crates/test_calls/src/lib.rt say what each is. Nothing is computed here but where a field lies and
 what a trap saves where: the answers are the manifest's.
 """
 import re
@@ -36,7 +36,7 @@ from hart import FIELDS, PARTS, START, with_settings
 from manifest import LARGEST, Wrong, choice, hexadecimal, number, parts, said
 from place import entries
 
-# What the program has room for: crates/test_lines/src/line.rt, crates/test_cases/src/calls.rt (`room`, twice a memory) and crates/test_scene/src/lib.rt.
+# What the program has room for: crates/test_lines/src/line.rt, crates/test_calls/src/lib.rt (`room`, twice a memory) and crates/test_scene/src/lib.rt.
 MOST_NUMBERS, MOST_BYTES, MOST_MADE, MOST_WORDS, MOST_MEMORY = 192, 2105344, 66, 28, 1052672
 FIRST_ADDRESS = 0x80000000
 CALLS = {"step": 0, "word": 1, "run": 2}
