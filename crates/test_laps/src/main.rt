@@ -56,12 +56,12 @@ fn second() {
 }
 
 fn third() {
-    let code = test_calls::code();
-    let map = test_calls::map();
-    let pairs = test_calls::wanted();
+    let code = calls::code();
+    let map = calls::map();
+    let pairs = calls::wanted();
     lap(
         b"calls with landing pads and a shadow stack",
-        test_calls::start(),
+        calls::start(),
         &code,
         &map,
         0x17f0,
