@@ -2,8 +2,10 @@
 //!
 //! It is written from the rules (docs/HART.md) and the RISC-V manuals, and not from the
 //! proved simulator, so that the two can be held against each other. It works by reference: a call changes the hart and the
-//! memory that it is lent. The calls are in `run`, loading a text in Intel HEX is in `hex`, an instruction as eight numbers in `read` and `write`; the other files hold one subject each.
+//! memory that it is lent. The calls are in `run`, loading a text in Intel HEX is in `hex`, an instruction as eight numbers in `read` and `write`;
+//! `path` says how an access goes and which rule refuses it. The other files hold one subject each.
 
+mod access;
 mod alu;
 mod bits;
 mod csr;
@@ -23,9 +25,13 @@ mod translate;
 mod trap;
 mod write;
 
+pub use access::{Access, Kind, Reason};
 pub use decode::family;
 pub use hart::Hart;
 pub use hex::{load_hex, Loaded};
+pub use pads::enabled as pads_on;
 pub use read::read;
 pub use run::{run, step, step_word, Answer};
+pub use shadow::enabled as shadow_stack_on;
+pub use translate::{leaf, path, Path, Regime};
 pub use write::write;

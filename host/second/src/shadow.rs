@@ -2,11 +2,12 @@
 //!
 //! Each checks and reaches memory first and changes the hart last, so that a trap changes nothing.
 
+use crate::access::{Access, Kind};
 use crate::bits::SSE;
 use crate::fields::Registers;
 use crate::hart::{Hart, MACHINE, SUPERVISOR, USER};
 use crate::memory::{read, read_extended, write, Extension, Width};
-use crate::translate::{translate, Access};
+use crate::translate::translate;
 use crate::trap::{Trap, SHADOW_STACK_FAULT, SOFTWARE_CHECK};
 
 const SLOT: Width = Width::Double;
@@ -32,7 +33,8 @@ pub fn push(h: &mut Hart, mem: &mut [u8], map: &[u64], link: u8) -> Result<(), T
         return Ok(());
     }
     let top = h.ssp.wrapping_sub(SLOT_BYTES);
-    let at = translate(h, map, mem.len(), Access::Push, top, SLOT)?;
+    let access = Access::new(Kind::Push, top, SLOT);
+    let at = translate(h, map, mem.len(), access)?;
     write(mem, at, SLOT, h.get(link));
     h.ssp = top;
     Ok(())
@@ -43,7 +45,8 @@ pub fn pop_check(h: &mut Hart, mem: &[u8], map: &[u64], link: u8) -> Result<(), 
     if !enabled(h) {
         return Ok(());
     }
-    let at = translate(h, map, mem.len(), Access::Pop, h.ssp, SLOT)?;
+    let access = Access::new(Kind::Pop, h.ssp, SLOT);
+    let at = translate(h, map, mem.len(), access)?;
     if read(mem, at, SLOT) != h.get(link) {
         return Err(Trap {
             cause: SOFTWARE_CHECK,
@@ -72,8 +75,8 @@ pub fn swap(
     if !reachable(h) {
         return Err(Trap::illegal(word));
     }
-    let address = h.get(operands.rs1);
-    let at = translate(h, map, mem.len(), Access::Swap, address, width)?;
+    let access = Access::new(Kind::Swap, h.get(operands.rs1), width);
+    let at = translate(h, map, mem.len(), access)?;
     let old = read_extended(mem, at, width, Extension::Sign);
     write(mem, at, width, h.get(operands.rs2));
     h.set(operands.rd, old);

@@ -212,8 +212,8 @@ fn access_trap(before: &State, map: &PageMap, symbols: &Symbols, word: u32) -> O
 /// Where in memory a step that does not trap writes, as indices of bytes.
 pub fn written(before: &State, map: &PageMap) -> Option<Range<usize>> {
     let access = access(before, before.next_word(map).ok()?)?;
-    let writes = matches!(access.kind, Kind::Store | Kind::Push | Kind::Swap);
-    let physical = before.path(map, access).end.ok().filter(|_| writes)?;
+    let path = before.path(map, access);
+    let physical = path.end.ok().filter(|_| access.kind.writes())?;
     let first = (physical - BASE) as usize;
     Some(first..first + access.width as usize)
 }

@@ -158,7 +158,7 @@ fn with_sse(hart: &Hart) -> Hart {
 fn refusal(hart: &Hart, entry: Entry, kind: Kind) -> Option<Refused> {
     let map = PageMap {
         entries: vec![entry],
-        words: Vec::new(),
+        words: vec![entry.page, entry.leaf],
     };
     let access = Access {
         kind,
@@ -176,7 +176,7 @@ fn refused_to_user(hart: &Hart, entry: Entry) -> Option<Refused> {
 
 /// Whether a user program can make the access, wherever the frame lies. With the shadow stack off it makes no shadow access at all.
 fn permitted(hart: &Hart, entry: Entry, kind: Kind) -> bool {
-    (!kind.shadow() || shadow_stack_on(hart)) && refusal(hart, entry, kind).is_none()
+    (!kind.is_shadow() || shadow_stack_on(hart)) && refusal(hart, entry, kind).is_none()
 }
 
 /// Of an access that is not permitted, but would be if nothing were lacking: each thing without which it is not, whatever else is
