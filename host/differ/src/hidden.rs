@@ -174,7 +174,7 @@ fn program(random: &mut Random, scene: &Scene, case: &mut Case) -> Vec<u32> {
     point(&mut maker);
     for register in VISITED {
         let middle = address(foreign_page(maker.random, maker.case)) + PAGE / 2;
-        let pointer = maker.dirty(middle, view.data_masked);
+        let pointer = maker.dirty(middle, view.data.bits);
         maker.case.set(register, pointer);
     }
     let start = maker.random.pick(&[0, 64, 1024]);

@@ -127,7 +127,7 @@ impl Mix {
             self.note_refusal(answer.refusal);
             return;
         }
-        self.run_lifted += u64::from(View::of(&case.hart.rest).lifted);
+        self.run_lifted += u64::from(View::of(&case.hart.rest).data.spared);
         self.run_steps += answer.count;
         self.run_lengths[answer
             .count

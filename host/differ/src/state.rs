@@ -3,6 +3,7 @@
 use crate::case::{Case, PAGE};
 use crate::random::Random;
 use crate::world::{Role, World};
+use second::{Kind, Regime};
 use sporhulma::word::*;
 
 /// UXL and SXL as every mstatus word holds them.
@@ -28,58 +29,25 @@ pub const LIFTED: u64 = 11;
 #[derive(Clone, Copy)]
 pub struct View {
     pub mode: u64,
-    /// The mode of loads, stores and swaps.
-    pub data_mode: u64,
-    /// Whether satp says Sv39, and whether it is in force.
+    /// Whether satp says Sv39; whether it is in force stands in the next two.
     pub sv39: bool,
-    pub fetch_sv39: bool,
-    pub data_sv39: bool,
-    /// How many upper bits the mode's PMM masks in data addresses, and would in the fetch address if it were masked.
-    pub data_masked: u32,
-    pub fetch_masked: u32,
-    /// Whether loads, stores and swaps are not masked all the same (request A2): in M with MPRV and MXR both set.
-    pub lifted: bool,
+    /// Of fetches; its bits are those that the mode's PMM would mask in the fetch address if it were masked.
+    pub fetch: Regime,
+    /// Of loads, stores and swaps. They are spared by request A2: in M with MPRV and MXR both set.
+    pub data: Regime,
     pub pads: bool,
 }
 
 impl View {
     pub fn of(rest: &[u64; 20]) -> View {
-        let mode = rest[MODE];
-        let mprv = mode == 3 && rest[MSTATUS] & MPRV != 0;
-        let data_mode = if mprv {
-            (rest[MSTATUS] & MPP) >> 11
-        } else {
-            mode
-        };
-        let sv39 = |mode| mode < 3 && rest[SATP] == SV39;
+        let hart = second::Hart::from_words(&[0; 32], rest);
         View {
-            mode,
-            data_mode,
-            sv39: rest[SATP] == SV39,
-            fetch_sv39: sv39(mode),
-            data_sv39: sv39(data_mode),
-            data_masked: masked(rest, data_mode),
-            fetch_masked: masked(rest, mode),
-            lifted: mprv && rest[MSTATUS] & MXR != 0,
-            pads: match mode {
-                0 => rest[SENVCFG] & LPE != 0,
-                1 => rest[MENVCFG] & LPE != 0,
-                _ => rest[MSECCFG] & MLPE != 0,
-            },
+            mode: hart.mode,
+            sv39: hart.satp == SV39,
+            fetch: Regime::of(&hart, Kind::Fetch),
+            data: Regime::of(&hart, Kind::Load),
+            pads: second::pads_on(&hart),
         }
-    }
-}
-
-fn masked(rest: &[u64; 20], mode: u64) -> u32 {
-    let word = match mode {
-        0 => rest[SENVCFG],
-        1 => rest[MENVCFG],
-        _ => rest[MSECCFG],
-    };
-    match (word & PMM) >> 32 {
-        2 => 7,
-        3 => 16,
-        _ => 0,
     }
 }
 

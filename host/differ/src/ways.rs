@@ -5,8 +5,7 @@
 //! counted anew behind each slow step; the run counts them over slow steps, and so begins the fast path as early or earlier.
 
 use crate::again::Step;
-use crate::state::SSE;
-use sporhulma::word::{ELP, MENVCFG, MODE, SENVCFG};
+use sporhulma::word::{ELP, MODE};
 use sporhulma::Hart;
 
 /// So many steps go the quick way before the fast path begins.
@@ -88,12 +87,7 @@ impl Ways {
 
 /// Whether pushes and pop-checks do something in the hart's mode.
 fn shadowed(hart: &Hart) -> bool {
-    let [menvcfg, senvcfg] = [MENVCFG, SENVCFG].map(|csr| hart.rest[csr] & SSE != 0);
-    match hart.rest[MODE] {
-        0 => menvcfg && senvcfg,
-        1 => menvcfg,
-        _ => false,
-    }
+    second::shadow_stack_on(&second::Hart::from_words(&hart.x, &hart.rest))
 }
 
 /// A CSR instruction with a register on scratch, epc, cause or tval, in a mode that has it.

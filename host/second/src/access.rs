@@ -1,9 +1,12 @@
 //! An access to memory, and why it is refused: the rule of docs/HART.md, chapter 7, which of its cases, and the cause of the trap.
 
+use crate::decode::{decode, Instruction};
+use crate::hart::Hart;
 use crate::memory::Width;
+use crate::shadow;
 use crate::trap::*;
 
-#[derive(Clone, Copy, PartialEq, Eq, Debug)]
+#[derive(Clone, Copy, PartialEq, Eq, PartialOrd, Ord, Debug)]
 pub enum Kind {
     Fetch,
     Load,
@@ -71,6 +74,25 @@ impl Access {
             address,
         }
     }
+}
+
+/// The access that a word makes, if it is of an instruction that makes one: no push or pop-check while the shadow stack is off.
+pub fn access(h: &Hart, word: u32) -> Option<Access> {
+    let (kind, address, width) = match decode(word) {
+        Instruction::Load(width, _, o) => {
+            (Kind::Load, h.get(o.rs1).wrapping_add(o.immediate), width)
+        }
+        Instruction::Store(width, o) => {
+            (Kind::Store, h.get(o.rs1).wrapping_add(o.immediate), width)
+        }
+        Instruction::Push { .. } if shadow::enabled(h) => {
+            (Kind::Push, shadow::below(h.ssp), shadow::SLOT)
+        }
+        Instruction::PopCheck { .. } if shadow::enabled(h) => (Kind::Pop, h.ssp, shadow::SLOT),
+        Instruction::Swap(width, o) => (Kind::Swap, h.get(o.rs1), width),
+        _ => return None,
+    };
+    Some(Access::new(kind, address, width))
 }
 
 /// Why an access is refused. The numbers and letters are those of docs/HART.md.

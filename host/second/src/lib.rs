@@ -25,7 +25,7 @@ mod translate;
 mod trap;
 mod write;
 
-pub use access::{Access, Kind, Reason};
+pub use access::{access, Access, Kind, Reason};
 pub use decode::family;
 pub use hart::Hart;
 pub use hex::{load_hex, Loaded};
@@ -33,5 +33,5 @@ pub use pads::enabled as pads_on;
 pub use read::read;
 pub use run::{run, step, step_word, Answer};
 pub use shadow::enabled as shadow_stack_on;
-pub use translate::{leaf, path, Path, Regime};
+pub use translate::{entry, leaf, path, Path, Regime};
 pub use write::write;

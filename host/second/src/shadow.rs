@@ -10,7 +10,7 @@ use crate::memory::{read, read_extended, write, Extension, Width};
 use crate::translate::translate;
 use crate::trap::{Trap, SHADOW_STACK_FAULT, SOFTWARE_CHECK};
 
-const SLOT: Width = Width::Double;
+pub const SLOT: Width = Width::Double;
 const SLOT_BYTES: u64 = 8;
 
 /// Whether the shadow stack is on in the current mode. U has it only while S has it too.
@@ -27,12 +27,17 @@ pub fn reachable(h: &Hart) -> bool {
     h.mode == MACHINE || enabled(h)
 }
 
+/// Where a push stores.
+pub fn below(ssp: u64) -> u64 {
+    ssp.wrapping_sub(SLOT_BYTES)
+}
+
 /// Stores a link register below ssp and then lowers ssp. Off, it is a Zimop word with rd = x0.
 pub fn push(h: &mut Hart, mem: &mut [u8], map: &[u64], link: u8) -> Result<(), Trap> {
     if !enabled(h) {
         return Ok(());
     }
-    let top = h.ssp.wrapping_sub(SLOT_BYTES);
+    let top = below(h.ssp);
     let access = Access::new(Kind::Push, top, SLOT);
     let at = translate(h, map, mem.len(), access)?;
     write(mem, at, SLOT, h.get(link));

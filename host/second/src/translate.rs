@@ -183,6 +183,11 @@ fn page_number(address: u64) -> Option<u64> {
     canonical.then_some(address >> PAGE_SHIFT & PAGE_NUMBER_MASK)
 }
 
+/// The entry of an address's page, if it is one of Sv39's and the map has it.
+pub fn entry(map: &[u64], address: u64) -> Option<u64> {
+    find(map, page_number(address)?)
+}
+
 /// Step 5: the entry of this page. The page numbers of the map strictly rise.
 fn find(map: &[u64], page: u64) -> Option<u64> {
     let mut rest = map;

@@ -18,7 +18,7 @@ pub use flow::{pads_on, shadow_stack_on};
 use crate::facts::Facts;
 use crate::map::PageMap;
 use crate::names::{mode_name, M};
-use crate::place::{Access, Kind};
+use crate::place::{by_the_rules, Access, Kind};
 use crate::state::State;
 use crate::symbols::Symbols;
 use disasm::Word;
@@ -34,8 +34,6 @@ pub mod family {
     pub const JAL: u64 = 3;
     pub const JALR: u64 = 4;
     pub const BRANCH: u64 = 5;
-    pub const LOAD: u64 = 6;
-    pub const STORE: u64 = 7;
     pub const ECALL: u64 = 13;
     pub const EBREAK: u64 = 14;
     pub const SRET: u64 = 15;
@@ -172,24 +170,7 @@ fn expected(before: &State, map: &PageMap, symbols: &Symbols) -> Option<Verdict>
 
 /// The access that a memory instruction makes, if the word is one and makes one.
 pub fn access(before: &State, word: u32) -> Option<Access> {
-    let fields = Word(word);
-    let hart = &before.hart;
-    let ssp = hart.rest[word::SSP];
-    let base = hart.x[fields.rs1() as usize];
-    let size = 1 << (fields.funct3() & 3);
-    let (kind, width, address) = match sporhulma::family(word) {
-        family::LOAD => (Kind::Load, size, base.wrapping_add(fields.imm_i() as u64)),
-        family::STORE => (Kind::Store, size, base.wrapping_add(fields.imm_s() as u64)),
-        family::PUSH if flow::shadow_stack_on(hart) => (Kind::Push, 8, ssp.wrapping_sub(8)),
-        family::POP if flow::shadow_stack_on(hart) => (Kind::Pop, 8, ssp),
-        family::SWAP => (Kind::Swap, size, base),
-        _ => return None,
-    };
-    Some(Access {
-        kind,
-        width,
-        address,
-    })
+    second::access(&by_the_rules(&before.hart), word)
 }
 
 /// The trap of a memory instruction.

@@ -11,6 +11,7 @@ use crate::lifted::access;
 use crate::mix::{list, FAMILIES};
 use crate::state::View;
 use crate::ways::{Way, Ways};
+use second::Kind;
 use sporhulma::word::*;
 use sporhulma::{Answer, Hart};
 use std::collections::{BTreeMap, BTreeSet};
@@ -237,7 +238,7 @@ impl Seen {
         }
         if let Some(access) = step.word.and_then(|word| access(step.before, word)) {
             let of = access.address / PAGE;
-            let store = u64::from(access.kind == "store");
+            let store = u64::from(access.kind == Kind::Store);
             let entry = Entry { known, of, at: 0 };
             let before = take(&mut self.pages, of % 64 + 64 * store, entry);
             if before.is_some_and(|before| before.of != of) {
@@ -319,7 +320,7 @@ impl Seen {
         self.count(("address", patched.name), deep);
         self.count(("run by", RUNS[usize::from(now.pc != before.pc)]), deep);
         let view = View::of(&hart.rest);
-        let mode = match (view.mode, view.fetch_sv39) {
+        let mode = match (view.mode, view.fetch.paged) {
             (0, _) => MODES[0],
             (1, true) => MODES[1],
             (1, false) => MODES[2],
@@ -346,7 +347,7 @@ impl Seen {
             let address = (stored.address & !3) + 4 * (at - first);
             let known = self.word(at as usize);
             let Some(before) = known.ran else { continue };
-            let name = match (view.fetch_sv39, view.data_sv39) {
+            let name = match (view.fetch.paged, view.data.paged) {
                 (true, _) if address != before.pc => NAMES[1],
                 (false, true) => NAMES[2],
                 _ => NAMES[0],
