@@ -2,15 +2,7 @@
 
 use sporhulma::Hart;
 
-pub use sporhulma::BASE;
-
-/// Which of the three calls, with its own argument.
-#[derive(Clone, Copy, PartialEq, Eq, Debug)]
-pub enum Call {
-    Step,
-    StepWord(u32),
-    Run(u64),
-}
+pub use sporhulma::{Call, BASE};
 
 #[derive(Clone, PartialEq, Eq, Debug)]
 pub struct Case {

@@ -15,11 +15,7 @@ pub struct Second;
 
 impl Simulator for Proved {
     fn call(&self, call: Call, hart: &mut Hart, mem: &mut [u8], map: &[u64]) -> Answer {
-        match call {
-            Call::Step => sporhulma::step(hart, mem, map),
-            Call::StepWord(word) => sporhulma::step_word(hart, mem, map, word),
-            Call::Run(budget) => sporhulma::run(hart, mem, map, budget),
-        }
+        sporhulma::call(call, hart, mem, map)
     }
 }
 
