@@ -125,8 +125,8 @@ fn outside(way: &Way, length: u64) -> String {
 #[cfg(test)]
 mod tests {
     use super::*;
-    use crate::bits::{MPRV, MXR, SSE};
     use crate::names::{M, S, U};
+    use formats::csr::field::{MPP_SHIFT, MPRV, MXR, PMM, SSE, SV39};
     use sporhulma::word;
 
     /// Request A2: the address as transformed, and what masking would have made of it where it is lifted.
@@ -141,8 +141,8 @@ mod tests {
             (M, Load, BOTH, TAGGED, spared),
             (M, Store, BOTH, TAGGED, spared),
             (M, Swap, BOTH, TAGGED, spared),
-            (M, Load, BOTH | 1 << 11, TAGGED, spared),
-            (M, Load, BOTH | 3 << 11, TAGGED, spared),
+            (M, Load, BOTH | 1 << MPP_SHIFT, TAGGED, spared),
+            (M, Load, BOTH | 3 << MPP_SHIFT, TAGGED, spared),
             (M, Load, BOTH, 0x1000, (0x1000, None)),
             (M, Load, MPRV, TAGGED, (0x1000, None)),
             (M, Load, MXR, TAGGED, (0x1000, None)),
@@ -154,10 +154,10 @@ mod tests {
         ] {
             let mut hart = Hart::fresh();
             hart.rest[word::MODE] = mode;
-            hart.rest[word::SATP] = 8 << 60;
+            hart.rest[word::SATP] = SV39;
             hart.rest[word::MSTATUS] |= mstatus;
             for csr in [word::SENVCFG, word::MENVCFG, word::MSECCFG] {
-                hart.rest[csr] = 3 << 32;
+                hart.rest[csr] = PMM;
             }
             let path = follow(&hart, 4096, &PageMap::default(), Access { kind, width: 4, address });
             assert_eq!((path.transformed, path.lifted), expected, "{kind:?} in mode {mode}: {mstatus:#x}");
@@ -170,7 +170,7 @@ mod tests {
     fn met(mode: u64, kind: Kind, flags: &str, address: u64) -> (u8, u64) {
         let mut hart = Hart::fresh();
         hart.rest[word::MODE] = mode;
-        hart.rest[word::SATP] = 8 << 60;
+        hart.rest[word::SATP] = SV39;
         hart.rest[word::MENVCFG] = SSE;
         hart.rest[word::SENVCFG] = SSE;
         let map = PageMap::parse("m", &format!("{CODE:#x} -> {flags}")).unwrap();

@@ -2,6 +2,7 @@
 
 use sporhulma::Hart;
 
+pub use formats::leaf::PAGE;
 pub use sporhulma::{Call, BASE};
 
 #[derive(Clone, PartialEq, Eq, Debug)]
@@ -11,8 +12,6 @@ pub struct Case {
     pub map: Vec<u64>,
     pub call: Call,
 }
-
-pub const PAGE: u64 = 4096;
 
 impl Case {
     pub fn empty() -> Case {

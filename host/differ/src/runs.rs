@@ -143,7 +143,7 @@ pub fn write(case: &mut Case, place: u64, words: &[u32]) {
 }
 
 pub fn write_handlers(maker: &mut Maker) {
-    for (start, mode, epc, back) in [(0, 3, 0x341, MRET), (S_HANDLER, 1, 0x141, SRET)] {
+    for (start, mode, epc, back) in [(0, 3, csr::MEPC, MRET), (S_HANDLER, 1, csr::SEPC, SRET)] {
         let words = handler(maker.random, mode, epc, back);
         write(maker.case, maker.world.offset(Role::Handler, start), &words);
     }

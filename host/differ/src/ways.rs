@@ -5,6 +5,7 @@
 //! counted anew behind each slow step; the run counts them over slow steps, and so begins the fast path as early or earlier.
 
 use crate::again::Step;
+use formats::csr::{MENVCFG, MSECCFG, MSTATUS, SATP, SENVCFG, SSTATUS};
 use sporhulma::word::{ELP, MODE};
 use sporhulma::Hart;
 
@@ -118,10 +119,12 @@ pub fn fast_does(step: &Step, word: u32) -> bool {
 
 /// Whether a word may change the setting: a return, or a CSR instruction that writes one of its words.
 fn switches(word: u32) -> bool {
-    const CSRS: [u32; 6] = [0x100, 0x10A, 0x180, 0x300, 0x30A, 0x747];
+    const CSRS: [u16; 6] = [SSTATUS, SENVCFG, SATP, MSTATUS, MENVCFG, MSECCFG];
     match second::family(word) {
         15 | 16 => true,
-        17 => CSRS.contains(&(word >> 20)) && (word >> 12 & 3 == 1 || word >> 15 & 31 != 0),
+        17 => {
+            CSRS.contains(&((word >> 20) as u16)) && (word >> 12 & 3 == 1 || word >> 15 & 31 != 0)
+        }
         _ => false,
     }
 }

@@ -7,7 +7,7 @@ use formats::extensions::{all, ABSENT};
 use std::collections::{BTreeMap, BTreeSet};
 
 /// The address of the first word; each next one stands 4 bytes on.
-pub const BASE: u64 = 0x8000_0000;
+pub use sporhulma::BASE;
 
 /// The words of one seed, rising, each once.
 pub fn sample(seed: u64) -> Vec<u32> {

@@ -7,7 +7,6 @@
 
 mod access;
 mod alu;
-mod bits;
 mod csr;
 mod decode;
 mod execute;

@@ -5,26 +5,12 @@
 //! meets on its way, for those who explain or count it.
 
 use crate::access::{Access, Kind, Reason};
-use crate::bits::*;
 use crate::hart::{Hart, MACHINE, SUPERVISOR, USER};
 use crate::memory::MEMORY_START;
 use crate::trap::Trap;
+use formats::csr::field::*;
+use formats::leaf::{A, D, FRAME, FRAME_SHIFT, NUMBERS, PAGE, R, RESERVED, U, V, W, X};
 
-/// The bits of a map entry, which is laid out as an Sv39 leaf.
-const V: u64 = 1 << 0;
-const R: u64 = 1 << 1;
-const W: u64 = 1 << 2;
-const X: u64 = 1 << 3;
-const U: u64 = 1 << 4;
-const A: u64 = 1 << 6;
-const D: u64 = 1 << 7;
-const FRAME_SHIFT: u32 = 10;
-const FRAME_MASK: u64 = (1 << 44) - 1;
-const ABOVE_FRAME: u32 = 54;
-
-const PAGE_SHIFT: u32 = 12;
-const OFFSET_MASK: u64 = (1 << PAGE_SHIFT) - 1;
-const PAGE_NUMBER_MASK: u64 = (1 << 27) - 1;
 /// An Sv39 address has 39 bits; this many bits above them only repeat bit 38.
 const SV39_SPARE_BITS: u32 = 25;
 
@@ -91,7 +77,7 @@ impl Regime {
         let mode = if under_mprv { h.mpp() } else { h.mode };
         Regime {
             mode,
-            paged: mode != MACHINE && h.satp == SATP_SV39,
+            paged: mode != MACHINE && h.satp == SV39,
             bits: masked_bits(h, mode),
             // docs/HART.md, 7.2 e (Pointer Masking 1.0.0-rc1, section 2.6): where MPRV decides while MXR is set too, so
             // that M can read with the rights of a fetch, which is not masked either; whatever mode MPP names, and also
@@ -174,13 +160,13 @@ fn sv39(h: &Hart, map: &[u64], mode: u64, kind: Kind, address: u64) -> Result<u6
     user_bit(h, mode, kind, entry)?;
     shadow_page(kind, entry)?;
     permission(h, kind, entry)?;
-    Ok(frame(entry) | address & OFFSET_MASK)
+    Ok(frame(entry) + address % PAGE)
 }
 
 /// Step 5: the number of an address's page, if it is one of Sv39's.
 fn page_number(address: u64) -> Option<u64> {
     let canonical = ignore_upper(address, SV39_SPARE_BITS, true) == address;
-    canonical.then_some(address >> PAGE_SHIFT & PAGE_NUMBER_MASK)
+    canonical.then_some(address / PAGE % NUMBERS)
 }
 
 /// The entry of an address's page, if it is one of Sv39's and the map has it.
@@ -206,7 +192,7 @@ pub fn leaf(entry: u64, menvcfg: u64) -> Result<(), Reason> {
     let reason = match entry & (R | W | X) {
         _ if entry & V == 0 => Reason::NotValid,
         0 => Reason::NoRights,
-        _ if entry >> ABOVE_FRAME != 0 => Reason::ReservedBits,
+        _ if entry & RESERVED != 0 => Reason::ReservedBits,
         W if menvcfg & SSE == 0 => Reason::WriteAlone,
         rights if rights == W | X => Reason::WriteWithoutRead,
         _ => return Ok(()),
@@ -259,7 +245,7 @@ fn permission(h: &Hart, kind: Kind, entry: u64) -> Result<(), Reason> {
 
 /// Step 9: the physical address of the first byte of the entry's frame.
 fn frame(entry: u64) -> u64 {
-    (entry >> FRAME_SHIFT & FRAME_MASK) << PAGE_SHIFT
+    ((entry & FRAME) >> FRAME_SHIFT) * PAGE
 }
 
 /// Step 9. The access is aligned and memory is whole pages, so its first byte speaks for all.

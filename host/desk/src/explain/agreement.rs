@@ -5,6 +5,9 @@ use super::{expected, Trap};
 use crate::map::{Entry, PageMap};
 use crate::state::State;
 use crate::symbols::Symbols;
+use formats::csr::field::{
+    LPE, MEDELEG_FIELDS, MLPE, MPP_SHIFT, MPRV, MXR, PMM_SHIFT, SSE, SUM, SV39,
+};
 use formats::extensions::{drawn, ABSENT};
 use sporhulma::{word, Hart};
 use std::collections::BTreeSet;
@@ -65,13 +68,15 @@ pub fn hart(random: &mut Random) -> Hart {
     rest[word::MODE] = random.pick(&[0, 0, 1, 3]);
     rest[word::ELP] = random.pick(&[0, 0, 0, 1]);
     rest[word::SSP] = random.pick(&[0x2000, 0x2ff8, 0x3000, stack]);
-    rest[word::SATP] = random.pick(&[0, 8 << 60, 8 << 60, 8 << 60]);
-    rest[word::MSTATUS] |= random.bits(7 << 17) | random.pick(&[0, 1, 3]) << 11;
-    rest[word::MEDELEG] = random.bits(0x4B3FF);
+    rest[word::SATP] = random.pick(&[0, SV39, SV39, SV39]);
+    rest[word::MSTATUS] |= random.bits(MPRV | SUM | MXR) | random.pick(&[0, 1, 3]) << MPP_SHIFT;
+    rest[word::MEDELEG] = random.bits(MEDELEG_FIELDS);
     for csr in [word::MENVCFG, word::SENVCFG] {
-        rest[csr] = random.bits(4) | random.pick(&[0, 8, 8, 8]) | random.pick(&[0, 2, 3]) << 32;
+        rest[csr] = random.bits(LPE)
+            | random.pick(&[0, SSE, SSE, SSE])
+            | random.pick(&[0, 2, 3]) << PMM_SHIFT;
     }
-    rest[word::MSECCFG] = random.bits(1 << 10) | random.pick(&[0, 2, 3]) << 32;
+    rest[word::MSECCFG] = random.bits(MLPE) | random.pick(&[0, 2, 3]) << PMM_SHIFT;
     hart
 }
 

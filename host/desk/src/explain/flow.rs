@@ -1,13 +1,13 @@
 //! Traps of control flow: landing pads, jump targets, ECALL and EBREAK.
 
 use super::{family, Verdict};
-use crate::bits::SSE;
 use crate::facts::hex;
 use crate::names::{mode_name, M, S, U};
 use crate::place::by_the_rules;
 use crate::state::State;
 use crate::symbols::Symbols;
 use disasm::Word;
+use formats::csr::field::SSE;
 use serde_json::Value;
 use sporhulma::{word, Hart};
 

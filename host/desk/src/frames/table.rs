@@ -4,11 +4,11 @@
 //! rule 5 (valid) or rule 6 (the U bit) refuses names nothing. Every other names its frame, as the theorem counts it,
 //! whatever rules 7 and 8 leave to be done there.
 
-use crate::bits::{MXR, SSE};
 use crate::explain::shadow_stack_on;
 use crate::map::{Entry, PageMap, A, D, PAGE};
 use crate::names::U;
 use crate::place::{follow, Access, Kind, Refused};
+use formats::csr::field::{MXR, SSE, SV39};
 use sporhulma::{word, Hart, BASE};
 use std::collections::BTreeMap;
 use std::ops::Range;
@@ -143,7 +143,7 @@ impl Naming {
 fn in_user_mode(hart: &Hart) -> Hart {
     let mut hart = *hart;
     hart.rest[word::MODE] = U;
-    hart.rest[word::SATP] = 8 << 60;
+    hart.rest[word::SATP] = SV39;
     hart
 }
 

@@ -11,6 +11,7 @@ use crate::lifted::access;
 use crate::mix::{list, FAMILIES};
 use crate::state::View;
 use crate::ways::{Way, Ways};
+use formats::csr;
 use second::Kind;
 use sporhulma::word::*;
 use sporhulma::{Answer, Hart};
@@ -409,14 +410,14 @@ fn change(step: &Step) -> Option<&'static str> {
         return None;
     }
     let word = step.word?;
-    match (second::family(word), word >> 20) {
+    match (second::family(word), (word >> 20) as u16) {
         (16, _) => Some("MRET"),
         (15, _) => Some("SRET"),
-        (_, 0x300) => Some("mstatus"),
-        (_, 0x100) => Some("sstatus"),
-        (_, 0x180) => Some("satp"),
-        (_, 0x30A) => Some("menvcfg"),
-        (_, 0x10A) => Some("senvcfg"),
+        (_, csr::MSTATUS) => Some("mstatus"),
+        (_, csr::SSTATUS) => Some("sstatus"),
+        (_, csr::SATP) => Some("satp"),
+        (_, csr::MENVCFG) => Some("menvcfg"),
+        (_, csr::SENVCFG) => Some("senvcfg"),
         _ => Some("mseccfg"),
     }
 }
