@@ -1,9 +1,9 @@
 //! CSR instructions: every CSR of docs/HART.md, 5.1, its neighbours and any address, with values that touch each field.
 
 use crate::maker::Maker;
-use crate::random::Random;
 use formats::csr as address;
 use formats::csr::field::*;
+use formats::random::Random;
 use formats::zicsr;
 use sporhulma::word::*;
 

@@ -1,9 +1,9 @@
 //! What the makers of instructions share: the case being made, its world, and addresses worth an access.
 
 use crate::case::{Case, BASE, PAGE};
-use crate::random::Random;
 use crate::state::View;
 use crate::world::{Role, World};
+use formats::random::Random;
 
 pub struct Maker<'a> {
     pub random: &'a mut Random,

@@ -1,10 +1,10 @@
 //! The refusal table's rules, each broken alone and next to it the nearest value that is accepted.
 
 use crate::case::{Call, Case};
-use crate::random::Random;
 use crate::state::XLENS;
 use crate::world::{lengthen, ENTRIES, NUMBERS};
 use formats::csr::field::*;
+use formats::random::Random;
 use formats::ECALL;
 use sporhulma::word::*;
 use sporhulma::MOST_STEPS;

@@ -4,11 +4,11 @@ use crate::case::{Call, Case, PAGE};
 use crate::instruction::instruction;
 use crate::maker::Maker;
 use crate::program::{handler, program};
-use crate::random::Random;
 use crate::refuse;
 use crate::state::{keepers, lifting, registers, settings, View, LIFTED, LPE, SSE, SV39};
 use crate::ways::FIRST;
 use crate::world::{lengthen, write_map, Role, Wish, World, ENTRIES};
+use formats::random::Random;
 use formats::*;
 use sporhulma::word::*;
 

@@ -6,8 +6,8 @@ pub use formats::csr::field::{
 };
 
 use crate::case::{Case, PAGE};
-use crate::random::Random;
 use crate::world::{Role, World};
+use formats::random::Random;
 use second::{Kind, Regime};
 use sporhulma::word::*;
 

@@ -3,10 +3,10 @@
 use crate::case::{Call, Case, PAGE};
 use crate::instruction::{instruction, moved_by_mprv};
 use crate::maker::Maker;
-use crate::random::Random;
 use crate::refuse;
 use crate::state::{keepers, lifting, registers, settings, View, LIFTED, SUM};
 use crate::world::{resize_map, write_map, Role, Wish, World};
+use formats::random::Random;
 use sporhulma::word::{MSTATUS, PC, SSP};
 
 /// Keeps the streams of steps apart from those of runs.

@@ -5,8 +5,8 @@
 //! over: a pop-check there would pass.
 
 use crate::program::{Program, RA, TABLE};
-use crate::random::Random;
 use formats::csr::SSP;
+use formats::random::Random;
 use formats::*;
 
 pub const VISITED: std::ops::Range<u32> = 19..28;

@@ -1,7 +1,7 @@
 //! The pages of a case: one for each role, where it lies in memory, its virtual page number and its leaf in the map.
 
 use crate::case::{Case, BASE, PAGE};
-use crate::random::Random;
+use formats::random::Random;
 
 /// What a page is for. The number is its place in `World::pages`.
 #[derive(Clone, Copy, PartialEq, Eq, Debug)]

@@ -16,11 +16,11 @@ mod objdump;
 mod options;
 mod program;
 mod qemu;
-mod random;
 mod report;
 mod side;
 mod words;
 
+use formats::random::Random;
 use options::{Comparison, Options};
 use report::say;
 use std::process::ExitCode;
@@ -67,6 +67,11 @@ fn main() -> ExitCode {
         }
         Err(wrong) => failed(&wrong),
     }
+}
+
+/// The stream number `number` of `seed`: streams of one seed have nothing in common.
+fn stream(seed: u64, number: u64) -> Random {
+    Random::new(Random::new(seed).word() ^ Random::new(number).word())
 }
 
 fn failed(wrong: &str) -> ExitCode {

@@ -8,10 +8,10 @@ use super::writer::{Writer, AGAIN, CONSTANTS, OPEN, STACK};
 use crate::case::{Case, BASE, PAGE};
 use crate::maker::Maker;
 use crate::program::TABLE;
-use crate::random::Random;
 use crate::runs::write_handlers;
 use crate::state::{keepers, registers, settings, View};
 use crate::world::{address, Role};
+use formats::random::Random;
 use sporhulma::word::{PC, SSP};
 
 /// Keeps the streams of these programs apart from those of other cases.

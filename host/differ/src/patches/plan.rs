@@ -1,8 +1,8 @@
 //! How a program that patches itself runs: in which mode, and so by which of its code's names it can be patched.
 
 use crate::case::Case;
-use crate::random::Random;
 use formats::csr::field::*;
+use formats::random::Random;
 use sporhulma::word::*;
 
 #[derive(Clone, Copy, PartialEq, Eq, Debug)]

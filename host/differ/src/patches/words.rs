@@ -5,9 +5,9 @@
 
 use crate::case::PAGE;
 use crate::program::TABLE;
-use crate::random::Random;
 use formats::csr::{SSCRATCH, SSP};
 use formats::extensions::{drawn, ABSENT};
+use formats::random::Random;
 use formats::*;
 
 /// The register that takes up.

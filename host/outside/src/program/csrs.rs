@@ -9,9 +9,9 @@
 use super::body::{holder, source, target};
 use super::{handler_address, DELEGATED, M_HANDLERS, S_HANDLERS};
 use crate::encode::*;
-use crate::random::Random;
 use formats::csr::field::{MIE, MPIE, MPP, MPP_SHIFT, MPRV, MXR, SIE, SPIE, SPP, SUM};
 use formats::csr::*;
+use formats::random::Random;
 
 /// What may be written to a CSR.
 #[derive(Clone, Copy)]
@@ -52,18 +52,18 @@ const CSRS: [(u16, Write); 19] = [
 
 /// The words of one access, with those that make the value to be written.
 pub fn access(random: &mut Random) -> Vec<u32> {
-    let (address, write) = random.one_of(&CSRS);
+    let (address, write) = random.pick(&CSRS);
     let rd = target(random);
     if random.once_in(3) {
-        return vec![csr(random.one_of(&[2, 3, 6, 7]), rd, address, 0)];
+        return vec![csr(random.pick(&[2, 3, 6, 7]), rd, address, 0)];
     }
-    let (operation, number) = (1 + random.below(3), random.below(32));
+    let (operation, number) = (1 + random.below(3) as u32, random.below(32) as u32);
     let by_number = random.once_in(3);
     match write {
         Write::Nothing => vec![csr_read(rd, address)],
         Write::Handlers(handlers) => {
             let register = holder(random);
-            let [high, low, sum] = handler_address(register, random.one_of(&handlers));
+            let [high, low, sum] = handler_address(register, random.pick(&handlers));
             vec![high, low, sum, csr(1, rd, address, register)]
         }
         Write::Anything if by_number => vec![csr(operation | 4, rd, address, number)],
@@ -82,7 +82,7 @@ pub fn access(random: &mut Random) -> Vec<u32> {
         Write::Bits(bits) => {
             let (register, value) = (
                 target(random),
-                random.next() as i32 & bits | previous(random, address, operation),
+                random.word() as i32 & bits | previous(random, address, operation),
             );
             let [high, low] = constant(register, value);
             vec![high, low, csr(operation, rd, address, register)]
@@ -94,8 +94,8 @@ pub fn access(random: &mut Random) -> Vec<u32> {
 /// never make a 2 of it.
 fn previous(random: &mut Random, address: u16, operation: u32) -> i32 {
     match (address, operation) {
-        (MSTATUS, 1) => random.one_of(&[0, 1 << MPP_SHIFT, MPP as i32]),
-        (MSTATUS, _) => random.one_of(&[0, MPP as i32]),
+        (MSTATUS, 1) => random.pick(&[0, 1 << MPP_SHIFT, MPP as i32]),
+        (MSTATUS, _) => random.pick(&[0, MPP as i32]),
         _ => 0,
     }
 }
