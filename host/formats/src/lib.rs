@@ -2,13 +2,14 @@
 //! their programs with. `extensions` has the instructions of M and Zbb by name and those
 //! beside them, by which the desk names an illegal word; `corners` has what they are tried with. `hex` writes Intel HEX. `csr` and `leaf` have
 //! the places of fields in CSRs and in leaves of the map; the second simulator uses these two, and nothing that makes words.
-//! `random` has the numbers that programs and cases are drawn with.
+//! `random` has the numbers that programs and cases are drawn with, and `number` reads one that was typed.
 
 pub mod corners;
 pub mod csr;
 pub mod extensions;
 pub mod hex;
 pub mod leaf;
+pub mod number;
 pub mod random;
 
 pub const LOAD: u32 = 0x03;

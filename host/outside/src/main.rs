@@ -22,8 +22,8 @@ mod words;
 
 use formats::random::Random;
 use options::{Comparison, Options};
-use report::say;
 use std::process::ExitCode;
+use terminal::say;
 
 const HELP: &str = "\
 tools/outside [COMPARISON] [OPTION ..]: the hart, its disassembler and assembler, its loader of Intel HEX and
@@ -51,18 +51,18 @@ fn main() -> ExitCode {
     let options = match options::read(&given) {
         Ok(Some(options)) => options,
         Ok(None) => {
-            say(HELP);
+            say!("{HELP}");
             return ExitCode::SUCCESS;
         }
         Err(wrong) => return failed(&wrong),
     };
     match compare(&options) {
         Ok(0) => {
-            say("outside: no difference");
+            say!("outside: no difference");
             ExitCode::SUCCESS
         }
         Ok(differences) => {
-            say(format!("outside: differences: {differences}"));
+            say!("outside: differences: {differences}");
             ExitCode::FAILURE
         }
         Err(wrong) => failed(&wrong),
