@@ -1,5 +1,6 @@
 //! Request A2 in the mix: the loads, stores and swaps that M makes with MPRV and MXR both set, where no bit is masked.
 
+use crate::simulator::by_second;
 use crate::state::SV39;
 use second::{Access, Kind, Path};
 use sporhulma::word::SATP;
@@ -21,7 +22,7 @@ const LEAST: f64 = 8.0;
 
 /// The load, store or swap that a word makes: those accesses that MPRV is for.
 pub fn access(hart: &Hart, word: u32) -> Option<Access> {
-    let access = second::access(&second::Hart::from_words(&hart.x, &hart.rest), word);
+    let access = second::access(&by_second(hart), word);
     access.filter(|access| name(access.kind).is_some())
 }
 
@@ -82,7 +83,7 @@ pub struct Lifted {
 impl Lifted {
     /// Counts a step that came to its instruction, if the instruction is such an access.
     pub fn note(&mut self, hart: &Hart, word: u32, trapped: bool) {
-        let own = second::Hart::from_words(&hart.x, &hart.rest);
+        let own = by_second(hart);
         let Some(access) = second::access(&own, word) else {
             return;
         };

@@ -7,7 +7,7 @@ use crate::world::{FRAME, U};
 
 /// Step 5: whether the leaf is accepted as a page's. W alone is a shadow page, which there is only while menvcfg.SSE is 1.
 pub fn valid(leaf: u64, menvcfg: u64) -> bool {
-    second::leaf(leaf, menvcfg).is_ok()
+    second::accepted(leaf, menvcfg).is_ok()
 }
 
 /// Whether a user's program may reach the frame of this leaf.

@@ -5,6 +5,7 @@
 //! counted anew behind each slow step; the run counts them over slow steps, and so begins the fast path as early or earlier.
 
 use crate::again::Step;
+use crate::simulator::by_second;
 use formats::csr::{MENVCFG, MSECCFG, MSTATUS, SATP, SENVCFG, SSTATUS};
 use sporhulma::word::{ELP, MODE};
 use sporhulma::Hart;
@@ -88,7 +89,7 @@ impl Ways {
 
 /// Whether pushes and pop-checks do something in the hart's mode.
 fn shadowed(hart: &Hart) -> bool {
-    second::shadow_stack_on(&second::Hart::from_words(&hart.x, &hart.rest))
+    second::shadow_stack_on(&by_second(hart))
 }
 
 /// A CSR instruction with a register on scratch, epc, cause or tval, in a mode that has it.

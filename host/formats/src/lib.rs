@@ -1,16 +1,16 @@
 //! Words of the base formats from their fields, as the unprivileged manual draws them: what differ, outside and bench make
 //! their programs with. `extensions` has the instructions of M and Zbb by name and those
-//! beside them, by which the desk names an illegal word; `corners` has what they are tried with. `hex` writes Intel HEX. `csr` and `leaf` have
-//! the places of fields in CSRs and in leaves of the map; the second simulator uses these two, and nothing that makes words.
+//! beside them, by which the desk names an illegal word; `corners` has what they are tried with. `hex` writes Intel HEX. `csr` and `leaf` are the
+//! second simulator's: the places of fields in CSRs and in leaves of the map, as it has them from the text. It uses nothing from here.
 //! `random` has the numbers that programs and cases are drawn with, and `number` reads one that was typed.
 
 pub mod corners;
-pub mod csr;
 pub mod extensions;
 pub mod hex;
-pub mod leaf;
 pub mod number;
 pub mod random;
+
+pub use second::{csrs as csr, leaf};
 
 pub const LOAD: u32 = 0x03;
 pub const MISC_MEM: u32 = 0x0F;

@@ -1,11 +1,11 @@
 //! The CSRs: which address names which, who may touch it, what a read gives and what a write leaves.
 
+use crate::csrs as address;
+use crate::csrs::field::*;
 use crate::decode::{CsrOperands, CsrOperation};
 use crate::hart::{Hart, BELOW_EIGHT, BELOW_FOUR};
 use crate::shadow;
 use crate::trap::Trap;
-use formats::csr as address;
-use formats::csr::field::*;
 
 #[derive(Clone, Copy, PartialEq, Eq, Debug)]
 enum Csr {

@@ -1,6 +1,6 @@
 //! The hart: its registers, mode, ELP, ssp and CSRs, and the words in which a host hands it over.
 
-use formats::csr::field::{MPP, MPP_SHIFT};
+use crate::csrs::field::{MPP, MPP_SHIFT};
 
 pub const USER: u64 = 0;
 pub const SUPERVISOR: u64 = 1;

@@ -1,9 +1,9 @@
 //! Landing pads: who has them on, when one is expected, and the check of the word that must be one.
 
+use crate::csrs::field::{LPE, MLPE};
 use crate::decode::{decode, Instruction};
 use crate::hart::{Hart, SUPERVISOR, USER};
 use crate::trap::{Trap, LANDING_PAD_FAULT, SOFTWARE_CHECK};
-use formats::csr::field::{LPE, MLPE};
 
 /// The register whose bits 31:12 hold the expected label.
 const LABEL_REGISTER: u8 = 7;

@@ -1,8 +1,8 @@
 //! Refusals: when a call takes nothing, and which number it then gives.
 
+use crate::csrs::field::*;
 use crate::hart::{Hart, BELOW_EIGHT, BELOW_FOUR, MACHINE, SUPERVISOR, USER};
-use formats::csr::field::*;
-use formats::leaf::{ENTRIES, NUMBERS, PAGE};
+use crate::leaf::{ENTRIES, NUMBERS, PAGE};
 
 const MOST_MEMORY: usize = 1_048_576;
 const MOST_MAP_WORDS: usize = 2 * ENTRIES;

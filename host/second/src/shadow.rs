@@ -3,12 +3,12 @@
 //! Each checks and reaches memory first and changes the hart last, so that a trap changes nothing.
 
 use crate::access::{Access, Kind};
+use crate::csrs::field::SSE;
 use crate::fields::Registers;
 use crate::hart::{Hart, MACHINE, SUPERVISOR, USER};
 use crate::memory::{read, read_extended, write, Extension, Width};
 use crate::translate::translate;
 use crate::trap::{Trap, SHADOW_STACK_FAULT, SOFTWARE_CHECK};
-use formats::csr::field::SSE;
 
 pub const SLOT: Width = Width::Double;
 const SLOT_BYTES: u64 = 8;

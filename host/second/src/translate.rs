@@ -5,11 +5,11 @@
 //! meets on its way, for those who explain or count it.
 
 use crate::access::{Access, Kind, Reason};
+use crate::csrs::field::*;
 use crate::hart::{Hart, MACHINE, SUPERVISOR, USER};
+use crate::leaf::{A, D, FRAME, FRAME_SHIFT, NUMBERS, PAGE, R, RESERVED, U, V, W, X};
 use crate::memory::MEMORY_START;
 use crate::trap::Trap;
-use formats::csr::field::*;
-use formats::leaf::{A, D, FRAME, FRAME_SHIFT, NUMBERS, PAGE, R, RESERVED, U, V, W, X};
 
 /// An Sv39 address has 39 bits; this many bits above them only repeat bit 38.
 const SV39_SPARE_BITS: u32 = 25;
@@ -156,7 +156,7 @@ fn physical(
 fn sv39(h: &Hart, map: &[u64], mode: u64, kind: Kind, address: u64) -> Result<u64, Reason> {
     let page = page_number(address).ok_or(Reason::NotCanonical)?;
     let entry = find(map, page).ok_or(Reason::NoEntry)?;
-    leaf(entry, h.menvcfg)?;
+    accepted(entry, h.menvcfg)?;
     user_bit(h, mode, kind, entry)?;
     shadow_page(kind, entry)?;
     permission(h, kind, entry)?;
@@ -188,7 +188,7 @@ fn find(map: &[u64], page: u64) -> Option<u64> {
 }
 
 /// Step 5: whether the entry can be used at all.
-pub fn leaf(entry: u64, menvcfg: u64) -> Result<(), Reason> {
+pub fn accepted(entry: u64, menvcfg: u64) -> Result<(), Reason> {
     let reason = match entry & (R | W | X) {
         _ if entry & V == 0 => Reason::NotValid,
         0 => Reason::NoRights,

@@ -1,8 +1,8 @@
 //! Traps and the returns from them: where a trap goes, what it saves, and what MRET and SRET restore.
 
+use crate::csrs::field::*;
 use crate::hart::{Hart, MACHINE, SUPERVISOR, USER};
 use crate::pads;
-use formats::csr::field::*;
 
 pub const INSTRUCTION_MISALIGNED: u64 = 0;
 pub const FETCH_ACCESS_FAULT: u64 = 1;

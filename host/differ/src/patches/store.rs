@@ -1,5 +1,6 @@
 //! What a step stored, and where: for those who count patches, and for those who plant a fault.
 
+use crate::simulator::by_second;
 use second::Kind;
 use sporhulma::Hart;
 
@@ -21,7 +22,7 @@ pub struct Stored {
 
 /// What a word that did not trap has stored; `before` is the hart before it.
 pub fn stored(before: &Hart, word: u32, map: &[u64]) -> Option<Stored> {
-    let hart = second::Hart::from_words(&before.x, &before.rest);
+    let hart = by_second(before);
     let access = second::access(&hart, word)?;
     let by = match (access.kind, access.width) {
         (Kind::Store, bytes) => STORES[bytes.ilog2() as usize],
