@@ -8,7 +8,7 @@ use crate::again::Step;
 use crate::simulator::by_second;
 use formats::csr::{MENVCFG, MSECCFG, MSTATUS, SATP, SENVCFG, SSTATUS};
 use sporhulma::word::{ELP, MODE};
-use sporhulma::Hart;
+use sporhulma::{family, Hart};
 
 /// So many steps go the quick way before the fast path begins.
 pub const FIRST: u64 = 1024;
@@ -105,16 +105,24 @@ fn handles(mode: u64, word: u32) -> bool {
 fn quick_does(step: &Step, word: u32) -> bool {
     !step.answer.trapped
         && match second::family(word) {
-            1..=11 => step.after.rest[ELP] == 0,
-            17 => handles(step.before.rest[MODE], word),
-            19 | 20 => shadowed(step.before),
+            family::LUI..=family::OP_32 => step.after.rest[ELP] == 0,
+            family::CSR => handles(step.before.rest[MODE], word),
+            family::PUSH | family::POP => shadowed(step.before),
             _ => false,
         }
 }
 
 /// Whether the fast path does a step: beside what the quick way does, FENCE, SSRDP, and what writes 0 and no more.
 pub fn fast_does(step: &Step, word: u32) -> bool {
-    let more = matches!(second::family(word), 12 | 18 | 19 | 20 | 22 | 23);
+    let more = matches!(
+        second::family(word),
+        family::FENCE
+            | family::READ_SSP
+            | family::PUSH
+            | family::POP
+            | family::MOP_R
+            | family::MOP_RR
+    );
     more && !step.answer.trapped || quick_does(step, word)
 }
 
@@ -122,8 +130,8 @@ pub fn fast_does(step: &Step, word: u32) -> bool {
 fn switches(word: u32) -> bool {
     const CSRS: [u16; 6] = [SSTATUS, SENVCFG, SATP, MSTATUS, MENVCFG, MSECCFG];
     match second::family(word) {
-        15 | 16 => true,
-        17 => {
+        family::SRET | family::MRET => true,
+        family::CSR => {
             CSRS.contains(&((word >> 20) as u16)) && (word >> 12 & 3 == 1 || word >> 15 & 31 != 0)
         }
         _ => false,

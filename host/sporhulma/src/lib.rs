@@ -44,6 +44,62 @@ pub mod number {
     pub const SECOND: usize = 7;
 }
 
+/// The families of instructions, as `family` numbers them.
+pub mod family {
+    pub const ILLEGAL: u64 = 0;
+    pub const LUI: u64 = 1;
+    pub const AUIPC: u64 = 2;
+    pub const JAL: u64 = 3;
+    pub const JALR: u64 = 4;
+    pub const BRANCH: u64 = 5;
+    pub const LOAD: u64 = 6;
+    pub const STORE: u64 = 7;
+    pub const OP_IMM: u64 = 8;
+    pub const OP_IMM_32: u64 = 9;
+    pub const OP: u64 = 10;
+    pub const OP_32: u64 = 11;
+    pub const FENCE: u64 = 12;
+    pub const ECALL: u64 = 13;
+    pub const EBREAK: u64 = 14;
+    pub const SRET: u64 = 15;
+    pub const MRET: u64 = 16;
+    pub const CSR: u64 = 17;
+    pub const READ_SSP: u64 = 18;
+    pub const PUSH: u64 = 19;
+    pub const POP: u64 = 20;
+    pub const SWAP: u64 = 21;
+    pub const MOP_R: u64 = 22;
+    pub const MOP_RR: u64 = 23;
+}
+
+/// The names of the families, in order.
+pub const FAMILIES: [&str; 24] = [
+    "illegal",
+    "LUI",
+    "AUIPC",
+    "JAL",
+    "JALR",
+    "branch",
+    "load",
+    "store",
+    "OP-IMM",
+    "OP-IMM-32",
+    "OP",
+    "OP-32",
+    "FENCE",
+    "ECALL",
+    "EBREAK",
+    "SRET",
+    "MRET",
+    "CSR",
+    "SSRDP",
+    "push",
+    "pop-check",
+    "swap",
+    "MOP.R",
+    "MOP.RR",
+];
+
 /// The physical address of memory's first byte.
 pub const BASE: u64 = 0x8000_0000;
 
@@ -175,7 +231,7 @@ pub fn load_hex(memory: &mut [u8], text: &[u8]) -> Loaded {
     }
 }
 
-/// The decoder's verdict: 0 for a word that is no instruction of the hart, else its family (include/sporhulma.h lists them).
+/// The decoder's verdict: [`family::ILLEGAL`] for a word that is no instruction of the hart, else its family.
 pub fn family(word: u32) -> u64 {
     // SAFETY: it takes a number and gives one.
     unsafe { sporhulma_family(word) }

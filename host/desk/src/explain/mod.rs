@@ -14,6 +14,7 @@ mod illegal;
 mod shadow;
 
 pub use flow::{pads_on, shadow_stack_on};
+pub use sporhulma::family;
 
 use crate::facts::Facts;
 use crate::map::PageMap;
@@ -27,22 +28,6 @@ use std::ops::Range;
 
 /// Rows of a report: what it is about, and what is said.
 pub type Rows = Vec<(&'static str, String)>;
-
-/// The decoder's families that can trap, as `sporhulma::family` numbers them.
-pub mod family {
-    pub const ILLEGAL: u64 = 0;
-    pub const JAL: u64 = 3;
-    pub const JALR: u64 = 4;
-    pub const BRANCH: u64 = 5;
-    pub const ECALL: u64 = 13;
-    pub const EBREAK: u64 = 14;
-    pub const SRET: u64 = 15;
-    pub const MRET: u64 = 16;
-    pub const CSR: u64 = 17;
-    pub const PUSH: u64 = 19;
-    pub const POP: u64 = 20;
-    pub const SWAP: u64 = 21;
-}
 
 /// A trap with its reason.
 struct Verdict {

@@ -9,11 +9,12 @@ use super::store::{stored, Stored};
 use crate::again::{place_at, take_again, Step};
 use crate::case::{Case, PAGE};
 use crate::lifted::access;
-use crate::mix::{list, FAMILIES};
+use crate::mix::list;
 use crate::state::View;
 use crate::ways::{Way, Ways};
 use second::Kind;
 use sporhulma::word::*;
+use sporhulma::FAMILIES;
 use sporhulma::{Answer, Hart};
 use std::collections::{BTreeMap, BTreeSet};
 

@@ -3,9 +3,9 @@
 use super::store::{ALL, DOUBLES};
 use crate::again::Step;
 use crate::case::PAGE;
-use crate::mix::FAMILIES;
 use formats::csr;
 use sporhulma::word::*;
+use sporhulma::{family, FAMILIES};
 
 /// Where the word stood, seen from the instruction that patched it.
 pub const PLACES: [&str; 5] = ["itself", "next", "just run", "ahead", "behind"];
@@ -101,11 +101,11 @@ pub fn left(step: &Step, word: u32) -> [&'static str; 2] {
         return [LEFT[0], cause.unwrap_or("another cause")];
     }
     let why = match second::family(word) {
-        4 => LEFT[5],
-        15 => LEFT[4],
-        16 => LEFT[3],
-        17 => LEFT[2],
-        21 => LEFT[1],
+        family::JALR => LEFT[5],
+        family::SRET => LEFT[4],
+        family::MRET => LEFT[3],
+        family::CSR => LEFT[2],
+        family::SWAP => LEFT[1],
         _ => "something else",
     };
     [why, "no trap"]
@@ -120,8 +120,8 @@ pub fn change(step: &Step) -> Option<&'static str> {
     }
     let word = step.word?;
     match (second::family(word), (word >> 20) as u16) {
-        (16, _) => Some("MRET"),
-        (15, _) => Some("SRET"),
+        (family::MRET, _) => Some("MRET"),
+        (family::SRET, _) => Some("SRET"),
         (_, csr::MSTATUS) => Some("mstatus"),
         (_, csr::SSTATUS) => Some("sstatus"),
         (_, csr::SATP) => Some("satp"),
