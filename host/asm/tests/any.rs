@@ -1,6 +1,6 @@
 //! Any line at all: it has a word whose text gives that word again, or a column within the line and a reason that says what would be right.
 
-use differ::random::Random;
+use formats::random::Random;
 use sporhulma::BASE;
 
 /// Operands of all kinds, right and wrong, and at the ends of every reach and beyond.

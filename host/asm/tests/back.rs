@@ -2,6 +2,7 @@
 
 use differ::eights::shape::{Register, Shape, SHAPES};
 use differ::eights::Numbers;
+use formats::random::Random;
 use sporhulma::number::{FAMILY, FIRST, IMMEDIATE, OPERATION, RD, RS2, SECOND};
 use sporhulma::{family, write, BASE};
 use std::collections::BTreeSet;
@@ -99,26 +100,13 @@ fn every_mnemonic_is_met() {
     }
 }
 
-struct Random(u64);
-
-impl Random {
-    /// splitmix64
-    fn next(&mut self) -> u64 {
-        self.0 = self.0.wrapping_add(0x9e37_79b9_7f4a_7c15);
-        let mut z = self.0;
-        z = (z ^ z >> 30).wrapping_mul(0xbf58_476d_1ce4_e5b9);
-        z = (z ^ z >> 27).wrapping_mul(0x94d0_49bb_1331_11eb);
-        z ^ z >> 31
-    }
-}
-
 #[test]
 fn three_hundred_thousand_random_legal_words() {
-    let mut random = Random(23);
+    let mut random = Random::new(23);
     let (mut legal, mut illegal) = (0, 0);
     while legal < 300_000 {
-        let made = random.next();
-        let (word, pc) = (made as u32 | 3, random.next() & !3);
+        let made = random.word();
+        let (word, pc) = (made as u32 | 3, random.word() & !3);
         match family(word) {
             0 if illegal < 100_000 => {
                 back(word, pc);

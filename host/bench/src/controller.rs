@@ -10,6 +10,7 @@
 mod words;
 
 use crate::programs::{entry, place, start_in_user, Program, PAGE, R, W, X};
+use formats::csr::field::SSE;
 use sporhulma::{word, Hart, BASE, MOST_STEPS};
 
 /// Pages of memory, and entries of the map: more than the 16 that the desk lays out for examples/c/controller.c, with its heap and stacks,
@@ -63,8 +64,8 @@ pub fn in_user() -> Program {
     let start = FIRST * PAGE as u64;
     let mut program = program("controller in C, Sv39, 29 entries", start);
     start_in_user(&mut program.hart, FIRST);
-    program.hart.rest[word::MENVCFG] = 8;
-    program.hart.rest[word::SENVCFG] = 8;
+    program.hart.rest[word::MENVCFG] = SSE;
+    program.hart.rest[word::SENVCFG] = SSE;
     program.hart.rest[word::SSP] = top(start, SHADOW);
     program.map = (0..ENTRIES)
         .flat_map(|n| entry(FIRST + n as u64, n as u64, rights(n)))

@@ -1,7 +1,7 @@
 //! Words of the few instructions that the benchmark's programs use, under their names.
 
-use formats::{b, i, j, r, s, JALR, LOAD, OP, OP_32, OP_IMM, OP_IMM_32, STORE, SYSTEM};
-pub use formats::{ECALL, MRET};
+use formats::{b, i, j, r, s, JALR, LOAD, OP, OP_32, OP_IMM, OP_IMM_32, STORE};
+pub use formats::{zicsr, ECALL, MRET};
 
 pub fn addi(rd: u32, rs1: u32, imm: i32) -> u32 {
     i(OP_IMM, 0, rd, rs1, imm as u64)
@@ -89,11 +89,6 @@ pub fn jal(rd: u32, offset: i32) -> u32 {
 
 pub fn jalr(rd: u32, rs1: u32, offset: i32) -> u32 {
     i(JALR, 0, rd, rs1, offset as u64)
-}
-
-/// A CSR instruction on a register; funct3: 1 CSRRW, 2 CSRRS, 3 CSRRC.
-pub fn csr(funct3: u32, rd: u32, address: u32, rs1: u32) -> u32 {
-    i(SYSTEM, funct3, rd, rs1, address.into())
 }
 
 /// Shadow push of x1.

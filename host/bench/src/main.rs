@@ -10,6 +10,7 @@ mod hex;
 mod programs;
 mod straight;
 
+use formats::number::unsigned;
 use programs::Program;
 use std::process::ExitCode;
 use std::time::Instant;
@@ -48,7 +49,7 @@ fn second(p: &Program, steps: u64) -> f64 {
 fn number(text: Option<&String>, most: u64, default: u64) -> Option<u64> {
     match text {
         None => Some(default),
-        Some(t) => t.parse().ok().filter(|n| (1..=most).contains(n)),
+        Some(text) => unsigned(text).ok().filter(|n| (1..=most).contains(n)),
     }
 }
 

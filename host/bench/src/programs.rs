@@ -3,16 +3,13 @@
 
 use crate::encode::*;
 use crate::{controller, filter, straight};
+use formats::csr::field::{MPP, SSE, SV39};
+use formats::csr::{MEPC, MSCRATCH, SSCRATCH};
+use formats::leaf::{self, A, D, FRAME_SHIFT, U, V};
+pub use formats::leaf::{R, W, X};
 use sporhulma::{word, Hart, BASE, MOST_STEPS};
 
-/// Leaf bits: valid, accessed and dirty; and what a page may do.
-const VAD: u64 = 0xC1;
-pub const R: u64 = 0x02;
-pub const W: u64 = 0x04;
-pub const X: u64 = 0x08;
-const U: u64 = 0x10;
-
-pub const PAGE: usize = 4096;
+pub const PAGE: usize = leaf::PAGE as usize;
 
 pub struct Program {
     pub name: &'static str,
@@ -48,13 +45,16 @@ pub fn place(memory: &mut [u8], at: usize, code: &[u32]) {
 
 /// An entry of the map: memory's page `frame`, for U, with these rights.
 pub fn entry(page: u64, frame: u64, may: u64) -> [u64; 2] {
-    [page, ((BASE / PAGE as u64 + frame) << 10) | VAD | U | may]
+    [
+        page,
+        ((BASE / leaf::PAGE + frame) << FRAME_SHIFT) | V | A | D | U | may,
+    ]
 }
 
 /// In U under Sv39, at the first byte of a page.
 pub fn start_in_user(hart: &mut Hart, page: u64) {
     hart.rest[word::MODE] = 0;
-    hart.rest[word::SATP] = 8 << 60;
+    hart.rest[word::SATP] = SV39;
     hart.rest[word::PC] = page * PAGE as u64;
 }
 
@@ -152,8 +152,8 @@ pub fn calls(name: &'static str, entries: usize) -> Program {
         .collect();
     let mut hart = Hart::fresh();
     start_in_user(&mut hart, page(0));
-    hart.rest[word::MENVCFG] = 8;
-    hart.rest[word::SENVCFG] = 8;
+    hart.rest[word::MENVCFG] = SSE;
+    hart.rest[word::SENVCFG] = SSE;
     hart.x[2] = (page(2) + 1) * PAGE as u64;
     hart.rest[word::SSP] = (page(3) + 1) * PAGE as u64;
     let mut memory = vec![0; 4 * PAGE];
@@ -169,28 +169,30 @@ pub fn calls(name: &'static str, entries: usize) -> Program {
 
 /// CSR reads and writes in M, and an environment call whose handler returns behind it. A run ends at each trap.
 pub fn csrs_and_traps() -> Program {
-    const MSCRATCH: u32 = 0x340;
-    const MEPC: u32 = 0x341;
-    const SSCRATCH: u32 = 0x140;
     let mut program = bare(
         "CSR and trap loop",
         &[
-            csr(1, 5, MSCRATCH, 6),
-            csr(2, 6, SSCRATCH, 0),
+            zicsr(1, 5, MSCRATCH, 6),
+            zicsr(2, 6, SSCRATCH, 0),
             addi(6, 6, 1),
-            csr(1, 0, SSCRATCH, 6),
-            csr(3, 7, MSCRATCH, 6),
+            zicsr(1, 0, SSCRATCH, 6),
+            zicsr(3, 7, MSCRATCH, 6),
             ECALL,
             addi(8, 8, 1),
             jal(0, -28),
         ],
     );
     let handler = 0x100;
-    let code = [csr(2, 9, MEPC, 0), addi(9, 9, 4), csr(1, 0, MEPC, 9), MRET];
+    let code = [
+        zicsr(2, 9, MEPC, 0),
+        addi(9, 9, 4),
+        zicsr(1, 0, MEPC, 9),
+        MRET,
+    ];
     place(&mut program.memory, handler, &code);
     program.hart.rest[word::MTVEC] = BASE + handler as u64;
     // MPP is M, so that MRET comes back to M
-    program.hart.rest[word::MSTATUS] |= 3 << 11;
+    program.hart.rest[word::MSTATUS] |= MPP;
     program
 }
 

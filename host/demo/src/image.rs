@@ -1,6 +1,8 @@
 //! The controller's two images and their symbols, made by examples/torque/build. They differ in their product, which
 //! stands last, and so they have the same symbols.
 
+use formats::number::unsigned;
+
 /// The code with the product that wraps, to be placed at the start of memory.
 pub const TORQUE: &[u8] = include_bytes!("../../../examples/torque/torque.bin");
 
@@ -13,10 +15,7 @@ const SYMBOLS: &str = include_str!("../../../examples/torque/torque.sym");
 fn symbols() -> impl Iterator<Item = (u64, &'static str)> {
     SYMBOLS.lines().filter_map(|line| {
         let (value, name) = line.split_once(' ')?;
-        Some((
-            u64::from_str_radix(value.strip_prefix("0x")?, 16).ok()?,
-            name,
-        ))
+        Some((unsigned(value).ok()?, name))
     })
 }
 

@@ -1,20 +1,9 @@
 //! How the controller lies in memory, and the hart that starts it: the pages of examples/torque/torque.map.
 
 use crate::image::symbol;
-use sporhulma::{word, Hart};
-
-/// Physical address of memory's first byte.
-const MEMORY: u64 = 0x8000_0000;
-const PAGE: u64 = 4096;
-
-/// Bits of a leaf.
-const V: u64 = 1 << 0;
-const R: u64 = 1 << 1;
-const W: u64 = 1 << 2;
-const X: u64 = 1 << 3;
-const U: u64 = 1 << 4;
-const A: u64 = 1 << 6;
-const D: u64 = 1 << 7;
+use formats::csr::field::{SSE, SV39};
+use formats::leaf::{A, D, FRAME_SHIFT, PAGE, R, U, V, W, X};
+use sporhulma::{word, Hart, BASE};
 
 /// What a page lets the program do.
 const CODE: u64 = R | X;
@@ -32,10 +21,6 @@ const PAGES: [(u64, u64); 7] = [
     (0x52000, DATA),
 ];
 
-/// SSE of menvcfg and senvcfg, and satp for Sv39.
-const SSE: u64 = 1 << 3;
-const SV39: u64 = 8 << 60;
-
 /// Whether the hart has its shadow stack on: both enables, menvcfg.SSE and senvcfg.SSE.
 #[derive(Clone, Copy, PartialEq, Eq, Debug)]
 pub enum Shadow {
@@ -45,7 +30,7 @@ pub enum Shadow {
 
 /// The page map, as the hart takes it: two words a page.
 pub fn map() -> Vec<u64> {
-    let leaf = |frame: u64, may: u64| (MEMORY / PAGE + frame) << 10 | may | V | U | A | D;
+    let leaf = |frame: u64, may: u64| (BASE / PAGE + frame) << FRAME_SHIFT | may | V | U | A | D;
     (0..)
         .zip(PAGES)
         .flat_map(|(frame, (page, may))| [page / PAGE, leaf(frame, may)])

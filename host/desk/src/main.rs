@@ -1,7 +1,6 @@
 //! The desk: the program an engineer uses. `desk help` and docs/DESK.md say what it does.
 
 mod assemble;
-mod bits;
 mod commands;
 mod demonstrate;
 mod drive;

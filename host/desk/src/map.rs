@@ -7,20 +7,11 @@
 
 use crate::failure::Failure;
 use crate::number::number;
-
-/// Most entries that the hart takes.
-pub const MOST: usize = 64;
+use formats::leaf::{self, FRAME, FRAME_SHIFT, NUMBERS, R, V, W, X};
+pub use formats::leaf::{A, D, ENTRIES as MOST, PAGE};
 
 /// Bits 0 to 7 of a leaf, by the letters that stand for them.
 const LETTERS: [char; 8] = ['v', 'r', 'w', 'x', 'u', 'g', 'a', 'd'];
-const V: u64 = 1 << 0;
-const R: u64 = 1 << 1;
-const W: u64 = 1 << 2;
-const X: u64 = 1 << 3;
-pub const A: u64 = 1 << 6;
-pub const D: u64 = 1 << 7;
-/// Bytes of a page and of a frame.
-pub const PAGE: u64 = 4096;
 
 /// A line of the map.
 #[derive(Clone, Copy, Debug, PartialEq)]
@@ -35,12 +26,12 @@ pub struct Entry {
 impl Entry {
     /// The physical address of the frame (bits 53:10 of the leaf are its number).
     pub fn frame(&self) -> u64 {
-        (self.leaf >> 10 & ((1 << 44) - 1)) * PAGE
+        ((self.leaf & FRAME) >> FRAME_SHIFT) * PAGE
     }
 
     /// The virtual address of the page, bits 63:39 as bit 38.
     pub fn address(&self) -> u64 {
-        ((self.page << 37) as i64 >> 25) as u64
+        leaf::address(self.page)
     }
 
     /// Whether the leaf's bit of this letter is set.
@@ -132,7 +123,7 @@ impl Pages {
     fn entries(&self, line: usize) -> impl Iterator<Item = Entry> + '_ {
         (0..self.count).map(move |at| Entry {
             page: self.page + at,
-            leaf: self.leaf + (at << 10),
+            leaf: self.leaf + (at << FRAME_SHIFT),
             line,
         })
     }
@@ -156,7 +147,7 @@ fn pages(content: &str) -> Result<Pages, String> {
             Some(frame) => {
                 let first = frame_number(frame)?;
                 frame_fits(first + (count - 1))?;
-                first << 10 | flags(words)?
+                first << FRAME_SHIFT | flags(words)?
             }
             None => {
                 return Err(
@@ -198,7 +189,7 @@ fn page_number(text: &str) -> Result<u64, String> {
     let address = number(text)?;
     aligned("virtual", address)?;
     match address as i64 >> 38 {
-        0 | -1 => Ok(address >> 12 & ((1 << 27) - 1)),
+        0 | -1 => Ok(address / PAGE % NUMBERS),
         _ => Err(format!(
             "virtual address {address:#x} is not of Sv39; its bits 63:39 must equal bit 38"
         )),

@@ -1,19 +1,11 @@
 //! Numbers as an engineer writes them: 4096, 0x1000, 0b1000, 1_000_000, 64K, and -1 for a register.
 
+use formats::number::{negative, unsigned, Wrong};
+
 /// A number of at most 64 bits.
 pub fn number(text: &str) -> Result<u64, String> {
-    let plain = text.replace('_', "").to_ascii_lowercase();
-    let (digits, radix) = match (plain.strip_prefix("0x"), plain.strip_prefix("0b")) {
-        (Some(digits), _) => (digits, 16),
-        (_, Some(digits)) => (digits, 2),
-        _ => (plain.as_str(), 10),
-    };
-    let wrong = || format!("'{text}' is not a number; write it as 4096, 0x1000 or 0b1000");
-    if digits.is_empty() || !digits.chars().all(|digit| digit.is_digit(radix)) {
-        return Err(wrong());
-    }
-    u64::from_str_radix(digits, radix)
-        .map_err(|_| format!("{text} has more than 64 bits; the largest is 0xffffffffffffffff"))
+    let told = |wrong: Wrong| wrong.told(text, "4096, 0x1000 or 0b1000");
+    unsigned(&text.replace('_', "")).map_err(told)
 }
 
 /// A number of bytes: a number, or one with K (1024) or M (1048576) behind it.
@@ -35,12 +27,7 @@ pub fn register_value(text: &str) -> Result<u64, String> {
     let Some(positive) = text.strip_prefix('-') else {
         return number(text);
     };
-    match number(positive)? {
-        magnitude if magnitude <= 1 << 63 => Ok(magnitude.wrapping_neg()),
-        _ => Err(format!(
-            "{text} is below -2^63, the least that 64 bits hold"
-        )),
-    }
+    negative(number(positive)?).map_err(|wrong| wrong.told(text, ""))
 }
 
 #[cfg(test)]

@@ -5,14 +5,11 @@ use crate::interrupt::Interrupt;
 use crate::state::State;
 use crate::symbols::Symbols;
 use indicatif::{ProgressBar, ProgressState, ProgressStyle};
-use std::cell::Cell;
-use std::time::{Duration, Instant};
+use std::time::Duration;
+use terminal::progress::Progress as Line;
 
 pub struct Progress<'a> {
-    /// Draws on stderr, and only where that is a terminal.
-    bar: ProgressBar,
-    /// When the next line is due.
-    due: Cell<Instant>,
+    line: Line,
     interrupt: Interrupt,
     symbols: &'a Symbols,
 }
@@ -35,19 +32,17 @@ impl<'a> Progress<'a> {
             bar.set_style(style.with_key("rate", rate));
         }
         Ok(Progress {
-            bar,
-            due: Cell::new(Instant::now() + Duration::from_secs(1)),
+            line: Line::new(bar, Duration::from_secs(1), Duration::from_millis(200)),
             interrupt: Interrupt::new()?,
             symbols,
         })
     }
 
     pub fn tick(&self, count: u64, state: &State) {
-        if !self.bar.is_hidden() && Instant::now() >= self.due.get() {
-            self.due.set(Instant::now() + Duration::from_millis(200));
+        if let Some(bar) = self.line.due() {
             let place = self.symbols.shown(state.pc(), state.space());
-            self.bar.set_message(place);
-            self.bar.set_position(count);
+            bar.set_message(place);
+            bar.set_position(count);
         }
     }
 
@@ -62,11 +57,4 @@ fn rate(state: &ProgressState, line: &mut dyn std::fmt::Write) {
     let rate = state.pos() as f64 / state.elapsed().as_secs_f64() / 1e6;
     // A line that cannot be written shows no rate.
     let _ = write!(line, "{rate:.1} million a second");
-}
-
-/// Takes the line away, so that what is said at the end stands alone.
-impl Drop for Progress<'_> {
-    fn drop(&mut self) {
-        self.bar.finish_and_clear();
-    }
 }

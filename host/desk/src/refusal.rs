@@ -2,24 +2,16 @@
 //!
 //! The desk asks `memory` before it makes memory of a size; the rest explains what the hart refused.
 
-use crate::bits::{LPE, MLPE, PMM, SSE};
 use crate::map::MOST;
+use formats::csr::field::*;
+use formats::leaf::PAGE;
 use sporhulma::{word, Hart, MOST_STEPS, MSTATUS_CLEAR, REST};
 
 /// Most bytes of memory that a call takes.
 pub const MEMORY: u64 = 1 << 20;
-const PAGE: u64 = 4096;
 
-/// LPE, SSE and PMM.
-const ENVCFG: u64 = LPE | SSE | PMM;
-/// MLPE and PMM.
-const MSECCFG: u64 = MLPE | PMM;
-const MEDELEG: u64 = 0x4B3FF;
-const MPP: u64 = 3 << 11;
-/// SIE, MIE, SPIE, MPIE, SPP, MPP, MPRV, SUM, MXR, SPELP and MPELP.
-const MSTATUS: u64 = 0x1AA | MPP | 7 << 17 | 1 << 23 | 1 << 41;
 /// UXL and SXL, which are 2 in every hart.
-const XL_FIELDS: u64 = 0xF_0000_0000;
+const XL_FIELDS: u64 = UXL | SXL;
 
 /// Why a memory of so many bytes is refused.
 pub fn memory(length: u64) -> Option<String> {
@@ -72,16 +64,16 @@ fn field(index: usize, value: u64) -> Option<String> {
         }
         word::ELP if value > 1 => Some(format!("{value} is neither 0 nor 1")),
         word::STVEC | word::SEPC | word::MTVEC | word::MEPC => within(value, !3, value & !3),
-        word::SATP if value & !(0xf << 60) == 0 && ![0, 8].contains(&(value >> 60)) => {
+        word::SATP if value & !(0xf << SATP_MODE_SHIFT) == 0 && ![BARE, SV39].contains(&value) => {
             Some(format!(
                 "{value:#x} has MODE {}; try MODE 0 (Bare, 0x0) or 8 (Sv39, 0x8000000000000000)",
-                value >> 60
+                value >> SATP_MODE_SHIFT
             ))
         }
-        word::SATP => within(value, 8 << 60, value & 8 << 60),
-        word::SENVCFG | word::MENVCFG => masking(value, ENVCFG),
-        word::MSECCFG => masking(value, MSECCFG),
-        word::MEDELEG => within(value, MEDELEG, value & MEDELEG),
+        word::SATP => within(value, SV39, value & SV39),
+        word::SENVCFG | word::MENVCFG => masking(value, ENVCFG_FIELDS),
+        word::MSECCFG => masking(value, MSECCFG_FIELDS),
+        word::MEDELEG => within(value, MEDELEG_FIELDS, value & MEDELEG_FIELDS),
         word::MSTATUS => mstatus(value),
         _ => None,
     }
@@ -115,24 +107,24 @@ fn taken(value: u64, mask: u64, field: u64, never: u64) -> u64 {
 
 /// A CSR with PMM.
 fn masking(value: u64, mask: u64) -> Option<String> {
-    let right = taken(value, mask, PMM, 1 << 32);
+    let right = taken(value, mask, PMM, 1 << PMM_SHIFT);
     let line = || format!("{value:#x} has PMM (bits 33:32) 1; try 0, 2 or 3 there: {right:#x}");
-    within(value, mask, right).or_else(|| (value & PMM == 1 << 32).then(line))
+    within(value, mask, right).or_else(|| (value & PMM == 1 << PMM_SHIFT).then(line))
 }
 
 fn mstatus(value: u64) -> Option<String> {
-    let right = taken(value, MSTATUS, MPP, 2 << 11) | MSTATUS_CLEAR;
+    let right = taken(value, MSTATUS_FIELDS, MPP, 2 << MPP_SHIFT) | MSTATUS_CLEAR;
     if value & XL_FIELDS != MSTATUS_CLEAR {
         return Some(format!(
             "{value:#x} has UXL and SXL other than 2; try {right:#x}"
         ));
     }
-    if value & MPP == 2 << 11 {
+    if value & MPP == 2 << MPP_SHIFT {
         return Some(format!(
             "{value:#x} has MPP (bits 12:11) 2, which is no mode; try {right:#x}"
         ));
     }
-    within(value, MSTATUS | MSTATUS_CLEAR, right)
+    within(value, MSTATUS_FIELDS | MSTATUS_CLEAR, right)
 }
 
 /// The option of `desk run` that gives a word of `rest`.

@@ -1,6 +1,5 @@
 //! Where and why a run stopped: in words, and as a JSON object.
 
-use crate::bits::LPE;
 use crate::drive::{End, Stop};
 use crate::ends;
 use crate::explain::{cause_name, shadow_stack_on, Rows, Trap};
@@ -15,6 +14,7 @@ use crate::state::State;
 use crate::symbols::Symbols;
 use crate::text;
 use disasm::register;
+use formats::csr::field::{LPE, SV39};
 use serde_json::Value;
 use sporhulma::{word, REST};
 
@@ -196,8 +196,8 @@ fn user(job: &Job) -> Rows {
     };
     let pc = job.symbols.told(job.state.pc(), job.state.space());
     let mode = mode_name(job.state.mode());
-    let satp = match hart.rest[word::SATP] >> 60 {
-        8 => "under Sv39 by the map below",
+    let satp = match hart.rest[word::SATP] {
+        SV39 => "under Sv39 by the map below",
         _ => "with satp Bare",
     };
     let (sp, ssp) = (hart.x[SP], hart.rest[word::SSP]);

@@ -1,12 +1,12 @@
 //! The hart at the start of a run: registers, CSRs, and the switches that set bits of CSRs.
 
-use crate::bits::{LPE, MLPE, PMM, SSE};
 use crate::failure::Failure;
 use crate::layout::Layout;
 use crate::load::{Format, Image};
 use crate::names::{csr_index, register_number, SP, U};
 use crate::number::{number, register_value};
 use crate::run_options::{Pc, StartOptions};
+use formats::csr::field::{LPE, MLPE, PMM, PMM_SHIFT, SSE, SV39};
 use sporhulma::{word, Hart, MSTATUS_CLEAR};
 
 /// Where the hart starts, if the options say it: at an address, or where the image says.
@@ -28,7 +28,7 @@ pub fn user(layout: &Layout) -> Hart {
     let mut hart = Hart::fresh();
     let pads = if layout.pads > 0 { LPE } else { 0 };
     hart.rest[word::MODE] = U;
-    hart.rest[word::SATP] = 8 << 60;
+    hart.rest[word::SATP] = SV39;
     hart.rest[word::MENVCFG] = SSE | pads;
     hart.rest[word::SENVCFG] = SSE | pads;
     hart.rest[word::SSP] = layout.ssp;
@@ -75,7 +75,7 @@ pub fn hart(mut hart: Hart, options: &StartOptions) -> Result<Hart, Failure> {
 fn switches(options: &StartOptions, hart: &mut Hart) {
     let (menvcfg, senvcfg, mseccfg) = (word::MENVCFG, word::SENVCFG, word::MSECCFG);
     for (on, index, bits) in [
-        (options.sv39, word::SATP, 8 << 60),
+        (options.sv39, word::SATP, SV39),
         (options.shadow_stack, menvcfg, SSE),
         (options.shadow_stack, senvcfg, SSE),
         (options.landing_pads, menvcfg, LPE),
@@ -88,7 +88,7 @@ fn switches(options: &StartOptions, hart: &mut Hart) {
     }
     if let Some(pmm) = options.masking {
         for index in [menvcfg, senvcfg, mseccfg] {
-            hart.rest[index] = hart.rest[index] & !PMM | pmm << 32;
+            hart.rest[index] = hart.rest[index] & !PMM | pmm << PMM_SHIFT;
         }
     }
 }

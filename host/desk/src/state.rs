@@ -4,6 +4,7 @@ use crate::map::PageMap;
 use crate::names::{mode_name, M};
 use crate::place::{follow, Access, Kind, Path};
 use crate::symbols::{Space, Symbols};
+use formats::csr::field::SV39;
 use sporhulma::{word, Answer, Hart, BASE};
 
 /// A hart and its memory at one moment.
@@ -26,7 +27,7 @@ impl State {
 
     /// Which addresses the hart fetches from, and so calls and returns to.
     pub fn space(&self) -> Space {
-        match self.mode() != M && self.hart.rest[word::SATP] >> 60 == 8 {
+        match self.mode() != M && self.hart.rest[word::SATP] == SV39 {
             true => Space::Virtual,
             false => Space::Physical,
         }

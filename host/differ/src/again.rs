@@ -48,7 +48,7 @@ pub fn word_at(hart: &Hart, mem: &[u8], map: &[u64]) -> Option<u32> {
 /// The place in memory that pc leads to, if memory is so long.
 pub fn place_at(hart: &Hart, map: &[u64]) -> Option<usize> {
     let pc = hart.rest[PC];
-    let at = if View::of(&hart.rest).fetch_sv39 {
+    let at = if View::of(&hart.rest).fetch.paged {
         let frame = place(leaf(map, pc)?);
         frame.checked_mul(PAGE)?.checked_add(pc % PAGE)?
     } else {

@@ -2,15 +2,8 @@
 
 use sporhulma::Hart;
 
-pub use sporhulma::BASE;
-
-/// Which of the three calls, with its own argument.
-#[derive(Clone, Copy, PartialEq, Eq, Debug)]
-pub enum Call {
-    Step,
-    StepWord(u32),
-    Run(u64),
-}
+pub use formats::leaf::PAGE;
+pub use sporhulma::{Call, BASE};
 
 #[derive(Clone, PartialEq, Eq, Debug)]
 pub struct Case {
@@ -19,8 +12,6 @@ pub struct Case {
     pub map: Vec<u64>,
     pub call: Call,
 }
-
-pub const PAGE: u64 = 4096;
 
 impl Case {
     pub fn empty() -> Case {

@@ -1,6 +1,6 @@
 //! The decoder's verdict on all 2^32 words, both decoders on both cores; and each word on its way through a read and a write.
 
-use crate::mix::FAMILIES;
+use sporhulma::FAMILIES;
 use std::sync::atomic::{AtomicU64, Ordering::Relaxed};
 use std::thread;
 

@@ -5,13 +5,13 @@ use crate::case::{Call, Case, BASE, PAGE};
 use crate::instruction::instruction;
 use crate::maker::Maker;
 use crate::named::{named, users};
-use crate::random::Random;
 use crate::refuse;
 use crate::runs::{point, tame, write};
 use crate::state::{keepers, registers, settings, View, SSE, SV39};
 use crate::steps::fetch;
 use crate::visit::{visitor, GUESS, VISITED};
 use crate::world::*;
+use formats::random::Random;
 use sporhulma::word::*;
 
 /// Keeps the streams of pairs apart from those of steps and runs.
@@ -174,7 +174,7 @@ fn program(random: &mut Random, scene: &Scene, case: &mut Case) -> Vec<u32> {
     point(&mut maker);
     for register in VISITED {
         let middle = address(foreign_page(maker.random, maker.case)) + PAGE / 2;
-        let pointer = maker.dirty(middle, view.data_masked);
+        let pointer = maker.dirty(middle, view.data.bits);
         maker.case.set(register, pointer);
     }
     let start = maker.random.pick(&[0, 64, 1024]);

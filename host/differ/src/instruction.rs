@@ -125,8 +125,8 @@ fn jalr(maker: &mut Maker) -> u32 {
     let rd = maker.random.pick(&[0, 1, 5, rs1, rd, rd]);
     let low = maker.random.pick(&[0, 0, 0, 0, 0, 0, 1, 1, 2, 3]);
     let place = maker.random.below(PAGE / 4) * 4 + low;
-    let target = maker.world.at(Role::Code, maker.view.fetch_sv39, place);
-    let target = maker.dirty(target, maker.view.fetch_masked);
+    let target = maker.world.at(Role::Code, maker.view.fetch.paged, place);
+    let target = maker.dirty(target, maker.view.fetch.bits);
     let imm = maker.immediate();
     maker.case.set(rs1, target.wrapping_sub(imm));
     i(JALR, 0, rd, rs1, imm)

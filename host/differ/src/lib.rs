@@ -28,7 +28,6 @@ pub mod options;
 pub mod pair;
 pub mod patches;
 pub mod program;
-pub mod random;
 pub mod reach;
 pub mod refuse;
 pub mod runs;

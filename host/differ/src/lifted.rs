@@ -1,16 +1,11 @@
 //! Request A2 in the mix: the loads, stores and swaps that M makes with MPRV and MXR both set, where no bit is masked.
 
-use crate::state::View;
-use formats::signed12;
+use crate::simulator::by_second;
+use crate::state::SV39;
+use second::{Access, Kind, Path};
+use sporhulma::word::SATP;
 use sporhulma::Hart;
 use std::collections::BTreeMap;
-
-/// A load, store or swap, before masking.
-#[derive(Clone, Copy, PartialEq, Eq, Debug)]
-pub struct Access {
-    pub kind: &'static str,
-    pub address: u64,
-}
 
 const KINDS: [&str; 3] = ["load", "store", "swap"];
 const MODES: [&str; 3] = ["MPP U", "MPP S", "MPP M"];
@@ -25,34 +20,25 @@ type Sort = [&'static str; 5];
 /// So many of a hundred steps are to be such accesses.
 const LEAST: f64 = 8.0;
 
-/// The access that a word makes, if MPRV is for it.
+/// The load, store or swap that a word makes: those accesses that MPRV is for.
 pub fn access(hart: &Hart, word: u32) -> Option<Access> {
-    let base = hart.x[(word >> 15) as usize & 31];
-    let (kind, offset) = match second::family(word) {
-        6 => (KINDS[0], word >> 20),
-        7 => (KINDS[1], word >> 25 << 5 | word >> 7 & 31),
-        21 => (KINDS[2], 0),
-        _ => return None,
-    };
-    let address = base.wrapping_add(signed12(offset.into()));
-    Some(Access { kind, address })
+    let access = second::access(&by_second(hart), word);
+    access.filter(|access| name(access.kind).is_some())
 }
 
-/// What masking would leave of a data address, were it not lifted.
-pub fn masked(view: &View, address: u64) -> u64 {
-    let shifted = address << view.data_masked;
-    if view.data_sv39 {
-        (shifted as i64 >> view.data_masked) as u64
-    } else {
-        shifted >> view.data_masked
+fn name(kind: Kind) -> Option<&'static str> {
+    match kind {
+        Kind::Load => Some(KINDS[0]),
+        Kind::Store => Some(KINDS[1]),
+        Kind::Swap => Some(KINDS[2]),
+        Kind::Fetch | Kind::Push | Kind::Pop => None,
     }
 }
 
-fn fate(view: &View, address: u64, trapped: bool) -> &'static str {
-    let canonical = (address << 25) as i64 >> 25 == address as i64;
-    if masked(view, address) != address {
+fn fate(path: &Path, trapped: bool) -> &'static str {
+    if path.regime.masked(path.transformed) != path.transformed {
         FATES[0]
-    } else if view.data_sv39 && !canonical {
+    } else if path.regime.paged && path.page.is_none() {
         FATES[1]
     } else if trapped {
         FATES[2]
@@ -97,20 +83,24 @@ pub struct Lifted {
 impl Lifted {
     /// Counts a step that came to its instruction, if the instruction is such an access.
     pub fn note(&mut self, hart: &Hart, word: u32, trapped: bool) {
-        let view = View::of(&hart.rest);
-        let Some(access) = access(hart, word).filter(|_| view.lifted) else {
+        let own = by_second(hart);
+        let Some(access) = second::access(&own, word) else {
+            return;
+        };
+        let path = second::path(&own, &[], 0, access);
+        let Some(kind) = name(access.kind).filter(|_| path.regime.spared) else {
             return;
         };
         let sort = [
-            access.kind,
-            MODES[view.data_mode.min(2) as usize],
-            SATPS[usize::from(view.sv39)],
-            match view.data_masked {
+            kind,
+            MODES[path.regime.mode.min(2) as usize],
+            SATPS[usize::from(hart.rest[SATP] == SV39)],
+            match path.regime.bits {
                 0 => MASKS[0],
                 7 => MASKS[1],
                 _ => MASKS[2],
             },
-            fate(&view, access.address, trapped),
+            fate(&path, trapped),
         ];
         *self.counts.entry(sort).or_default() += 1;
     }
@@ -172,7 +162,7 @@ impl Lifted {
 #[cfg(test)]
 mod tests {
     use super::*;
-    use crate::state::{MPRV, MXR, PMM, SV39};
+    use crate::state::{MPRV, MXR, PMM};
     use formats::{i, r, s, AMO, LOAD, OP, STORE};
     use sporhulma::word::*;
 
@@ -192,10 +182,10 @@ mod tests {
         let hart = hart();
         let read = |word| access(&hart, word).map(|access| (access.kind, access.address));
         let offset = -8_i64 as u64;
-        assert_eq!(read(i(LOAD, 3, 3, 2, offset)), Some(("load", 0x4FF8)));
-        assert_eq!(read(s(STORE, 0, 2, 3, offset)), Some(("store", 0x4FF8)));
+        assert_eq!(read(i(LOAD, 3, 3, 2, offset)), Some((Kind::Load, 0x4FF8)));
+        assert_eq!(read(s(STORE, 0, 2, 3, offset)), Some((Kind::Store, 0x4FF8)));
         let address = hart.x[1];
-        assert_eq!(read(r(AMO, 3, 0x24, 3, 1, 4)), Some(("swap", address)));
+        assert_eq!(read(r(AMO, 3, 0x24, 3, 1, 4)), Some((Kind::Swap, address)));
         assert_eq!(read(r(AMO, 3, 0x04, 3, 1, 4)), None);
         assert_eq!(read(r(OP, 0, 0, 3, 1, 2)), None);
     }

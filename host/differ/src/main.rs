@@ -8,24 +8,18 @@ use differ::hex;
 use differ::hex::check::Check;
 use differ::hex::make::{Made, Sort};
 use differ::hex::soak::Texts;
-use differ::mix::FAMILIES;
 use differ::options::{parse, Amounts, Command, HELP};
 use differ::pair::Pair;
 use differ::simulator::{Proved, Second, Simulator};
 use differ::soak::{Failure, Name, Soak};
 use differ::text;
-use std::io::{IsTerminal, Write};
+use sporhulma::FAMILIES;
 use std::path::{Path, PathBuf};
 use std::process::ExitCode;
 use std::sync::atomic::{AtomicU64, Ordering::Relaxed};
 use std::time::{Duration, Instant};
-
-/// Prints a line. A reader that has gone away (a closed pipe) must not change the exit status.
-macro_rules! say {
-    ($($text:tt)*) => {{
-        let _ = writeln!(std::io::stdout(), $($text)*);
-    }};
-}
+use terminal::progress::Progress;
+use terminal::say;
 
 const TEST_SEED: u64 = 1;
 const TEST: Amounts = Amounts {
@@ -86,39 +80,11 @@ fn usage(error: &str) -> ExitCode {
     ExitCode::from(2)
 }
 
-/// A line on a terminal that is written over about once a second.
-struct Progress {
-    start: Instant,
-    last: Option<Instant>,
-    shown: bool,
-}
+/// A line about once a second.
+const SECOND: Duration = Duration::from_secs(1);
 
-impl Progress {
-    fn new() -> Progress {
-        Progress {
-            start: Instant::now(),
-            last: None,
-            shown: std::io::stderr().is_terminal(),
-        }
-    }
-
-    fn show(&mut self, line: impl FnOnce() -> String) {
-        let due = self
-            .last
-            .is_none_or(|last| last.elapsed() >= Duration::from_secs(1));
-        if self.shown && due {
-            self.last = Some(Instant::now());
-            eprint!("\r\x1b[K{}, {} s", line(), self.start.elapsed().as_secs());
-            let _ = std::io::stderr().flush();
-        }
-    }
-
-    /// Clears the line, so that other text can follow.
-    fn clear(&mut self) {
-        if self.shown && self.last.is_some() {
-            eprint!("\r\x1b[K");
-        }
-    }
+fn show(progress: &Progress, line: impl FnOnce() -> String) {
+    progress.show(|| format!("{}, {} s", line(), progress.seconds() as u64));
 }
 
 fn test() -> ExitCode {
@@ -178,7 +144,7 @@ impl Part {
 /// Steps, runs, pairs and patches by turns. Prints the mix and the verdict.
 fn soak(seed: u64, amounts: Amounts) -> Soak<Proved, Second> {
     let mut soak = Soak::new(Proved, Second, seed);
-    let mut progress = Progress::new();
+    let progress = Progress::lines(SECOND);
     let mut parts = [amounts.steps, amounts.runs, amounts.pairs, amounts.patches].map(Part::new);
     let mut printed = 0;
     while !soak.done() && parts.iter().any(Part::more) {
@@ -188,11 +154,12 @@ fn soak(seed: u64, amounts: Amounts) -> Soak<Proved, Second> {
         pairs.go_on(PAIRS_AT_ONCE, &mut soak, Soak::pair);
         patches.go_on(PATCHES_AT_ONCE, &mut soak, Soak::patch);
         for failure in &soak.failures[printed..] {
-            progress.clear();
-            print_failure(failure);
+            progress.aside(|| print_failure(failure));
         }
         printed = soak.failures.len();
-        progress.show(|| format!("{}, {printed} differences", counted(&parts)));
+        show(&progress, || {
+            format!("{}, {printed} differences", counted(&parts))
+        });
     }
     progress.clear();
     print_mix(&soak, &parts);
@@ -200,7 +167,7 @@ fn soak(seed: u64, amounts: Amounts) -> Soak<Proved, Second> {
     say!(
         "differ: {printed} differences in {} of seed {seed}, {:.1} s ({pairs:.1} s the pairs, {patches:.1} s the patches)",
         counted(&parts),
-        progress.start.elapsed().as_secs_f64()
+        progress.seconds()
     );
     soak
 }
@@ -227,7 +194,7 @@ fn print_mix(soak: &Soak<Proved, Second>, parts: &[Part; 4]) {
 /// Texts one after the other. Prints what they were and the verdict.
 fn texts(seed: u64, wanted: Option<u64>) -> Texts<Proved, Second> {
     let mut texts = Texts::new(Proved, Second, seed);
-    let mut progress = Progress::new();
+    let progress = Progress::lines(SECOND);
     let (mut made, mut printed) = (0, 0);
     while !texts.done() && wanted.is_none_or(|wanted| made < wanted) {
         let end = made + TEXTS_AT_ONCE;
@@ -236,17 +203,16 @@ fn texts(seed: u64, wanted: Option<u64>) -> Texts<Proved, Second> {
             made += 1;
         }
         for failure in &texts.failures[printed..] {
-            progress.clear();
-            print_text(failure);
+            progress.aside(|| print_text(failure));
         }
         printed = texts.failures.len();
-        progress.show(|| format!("{made} texts, {printed} differences"));
+        show(&progress, || format!("{made} texts, {printed} differences"));
     }
     progress.clear();
     say!("{}", texts.seen.text().trim_end());
     say!(
         "differ: {printed} differences in {made} texts of seed {seed}, {:.1} s",
-        progress.start.elapsed().as_secs_f64()
+        progress.seconds()
     );
     texts
 }
@@ -254,7 +220,7 @@ fn texts(seed: u64, wanted: Option<u64>) -> Texts<Proved, Second> {
 /// Eights one after the other. Prints what they were and the verdict; a failure has its numbers in its line.
 fn eights(seed: u64, wanted: Option<u64>) -> Eights<Proved> {
     let mut eights = Eights::new(Proved, seed);
-    let mut progress = Progress::new();
+    let progress = Progress::lines(SECOND);
     let mut printed = 0;
     while !eights.done() && wanted.is_none_or(|wanted| eights.made < wanted) {
         let end = eights.made + EIGHTS_AT_ONCE;
@@ -262,18 +228,19 @@ fn eights(seed: u64, wanted: Option<u64>) -> Eights<Proved> {
             eights.next();
         }
         for failure in &eights.failures[printed..] {
-            progress.clear();
-            say!("DIFFERENCE: {failure}");
+            progress.aside(|| say!("DIFFERENCE: {failure}"));
         }
         printed = eights.failures.len();
-        progress.show(|| format!("{} eights, {printed} differences", eights.made));
+        show(&progress, || {
+            format!("{} eights, {printed} differences", eights.made)
+        });
     }
     progress.clear();
     say!("{}", eights.text().trim_end());
     say!(
         "differ: {printed} differences in {} eights of seed {seed}, {:.1} s",
         eights.made,
-        progress.start.elapsed().as_secs_f64()
+        progress.seconds()
     );
     eights
 }
@@ -401,7 +368,7 @@ fn again_file(file: &str) -> ExitCode {
 
 fn decoder() -> ExitCode {
     let done = AtomicU64::new(0);
-    let mut progress = Progress::new();
+    let progress = Progress::lines(SECOND);
     let verdicts = std::thread::scope(|scope| {
         let work = scope.spawn(|| {
             decoder::compare(
@@ -414,7 +381,7 @@ fn decoder() -> ExitCode {
         });
         while !work.is_finished() {
             let percent = done.load(Relaxed) * 100 / decoder::WORDS;
-            progress.show(|| format!("{percent} % of 2^32 words"));
+            show(&progress, || format!("{percent} % of 2^32 words"));
             std::thread::sleep(Duration::from_millis(100));
         }
         work.join().expect("the comparison panicked")
@@ -434,7 +401,7 @@ fn decoder() -> ExitCode {
         verdicts.differences,
         decoder::WORDS,
         verdicts.lost,
-        progress.start.elapsed().as_secs_f64()
+        progress.seconds()
     );
     status(verdicts.differences == 0 && verdicts.lost == 0)
 }

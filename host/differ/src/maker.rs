@@ -1,9 +1,9 @@
 //! What the makers of instructions share: the case being made, its world, and addresses worth an access.
 
 use crate::case::{Case, BASE, PAGE};
-use crate::random::Random;
 use crate::state::View;
 use crate::world::{Role, World};
+use formats::random::Random;
 
 pub struct Maker<'a> {
     pub random: &'a mut Random,
@@ -43,8 +43,8 @@ impl Maker<'_> {
             return self.edge(width);
         }
         let offset = self.offset(width);
-        let plain = self.world.at(role, self.view.data_sv39, offset);
-        self.dirty(plain, self.view.data_masked)
+        let plain = self.world.at(role, self.view.data.paged, offset);
+        self.dirty(plain, self.view.data.bits)
     }
 
     /// An address with upper bits that masking changes, where `masked` of them are; seldom one that it does not mend.

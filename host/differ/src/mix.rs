@@ -6,38 +6,13 @@ use crate::case::{Call, Case};
 use crate::lifted::Lifted;
 use crate::pair::Side;
 use crate::state::View;
+use sporhulma::family::{EBREAK, ECALL, ILLEGAL};
 use sporhulma::word::{MODE, MTVAL, STVAL};
+use sporhulma::FAMILIES;
 use std::fmt::Write;
 
-pub const FAMILIES: [&str; 24] = [
-    "illegal",
-    "LUI",
-    "AUIPC",
-    "JAL",
-    "JALR",
-    "branch",
-    "load",
-    "store",
-    "OP-IMM",
-    "OP-IMM-32",
-    "OP",
-    "OP-32",
-    "FENCE",
-    "ECALL",
-    "EBREAK",
-    "SRET",
-    "MRET",
-    "CSR",
-    "SSRDP",
-    "push",
-    "pop-check",
-    "swap",
-    "MOP.R",
-    "MOP.RR",
-];
-
 /// The families whose every word traps.
-const TRAPPING: [usize; 3] = [0, 13, 14];
+const TRAPPING: [u64; 3] = [ILLEGAL, ECALL, EBREAK];
 
 /// A cause with the tval that tells two kinds apart; other causes have one kind.
 #[derive(Clone, Copy, PartialEq, Eq)]
@@ -127,7 +102,7 @@ impl Mix {
             self.note_refusal(answer.refusal);
             return;
         }
-        self.run_lifted += u64::from(View::of(&case.hart.rest).lifted);
+        self.run_lifted += u64::from(View::of(&case.hart.rest).data.spared);
         self.run_steps += answer.count;
         self.run_lengths[answer
             .count
@@ -173,7 +148,7 @@ impl Mix {
         for (at, name) in FAMILIES.iter().enumerate() {
             if self.families[at] == 0 {
                 complaints.push(format!("family {at} ({name}) was never seen"));
-            } else if self.families_untrapped[at] == 0 && !TRAPPING.contains(&at) {
+            } else if self.families_untrapped[at] == 0 && !TRAPPING.contains(&(at as u64)) {
                 complaints.push(format!(
                     "family {at} ({name}) was never seen without a trap"
                 ));

@@ -1,17 +1,13 @@
 //! Which frames of memory a user's program may reach at all (request A13): those that a valid entry with its U bit names.
 //!
-//! Written from docs/HART.md, 7.5; neither simulator is asked.
+//! The second simulator says which leaves are pages (docs/HART.md, 7.5), and the tests below hold it to that.
 
 use crate::case::{BASE, PAGE};
-use crate::state::SSE;
-use crate::world::{FRAME, NUMBERS, R, U, V, W, X};
+use crate::world::{FRAME, U};
 
 /// Step 5: whether the leaf is accepted as a page's. W alone is a shadow page, which there is only while menvcfg.SSE is 1.
 pub fn valid(leaf: u64, menvcfg: u64) -> bool {
-    const ORDINARY: [u64; 5] = [R, X, R | X, R | W, R | W | X];
-    let rights = leaf & (R | W | X);
-    let shadow = rights == W && menvcfg & SSE != 0;
-    leaf & V != 0 && leaf >> 54 == 0 && (shadow || ORDINARY.contains(&rights))
+    second::accepted(leaf, menvcfg).is_ok()
 }
 
 /// Whether a user's program may reach the frame of this leaf.
@@ -37,15 +33,14 @@ pub fn named(map: &[u64], menvcfg: u64, bytes: usize) -> Vec<bool> {
 
 /// The leaf of a virtual address, if it is one of Sv39's and the map has its page.
 pub fn leaf(map: &[u64], address: u64) -> Option<u64> {
-    let canonical = (address << 25) as i64 >> 25 == address as i64;
-    let number = address / PAGE % NUMBERS;
-    let entry = map.chunks_exact(2).find(|entry| entry[0] == number)?;
-    canonical.then_some(entry[1])
+    second::entry(map, address)
 }
 
 #[cfg(test)]
 mod tests {
     use super::*;
+    use crate::state::SSE;
+    use crate::world::{NUMBERS, R, V, W, X};
 
     const FIRST: u64 = (BASE / PAGE) << 10;
 

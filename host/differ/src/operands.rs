@@ -1,8 +1,8 @@
 //! Operands for request A3: the corners of 64 bits and of the 32 that a word form looks at, and numbers whose count is
 //! drawn.
 
-use crate::random::Random;
 use formats::extensions::Encoding;
+use formats::random::Random;
 
 /// The corners; the last two are all other numbers.
 pub const CORNERS: [&str; 7] = ["0", "1", "-1", "least", "greatest", "positive", "negative"];

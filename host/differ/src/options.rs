@@ -1,7 +1,8 @@
 //! The command line of `differ`.
 
 use crate::soak::Name;
-use crate::text::number;
+use crate::text::no_number;
+use terminal::options::{items, Item};
 
 pub const HELP: &str = "\
 differ: the proved simulator (left) against the second, independent one (right)
@@ -114,21 +115,19 @@ pub fn parse(args: &[String]) -> Result<Command, String> {
 /// The values of `names`, each given at most once; None where it is not given.
 fn values<const N: usize>(options: &[&str], names: [&str; N]) -> Result<[Option<u64>; N], String> {
     let mut values = [None; N];
-    for pair in options.chunks(2) {
-        let Some(at) = names.iter().position(|name| *name == pair[0]) else {
-            return Err(format!(
-                "'{}' is no option here: right is {}",
-                pair[0],
-                names.join(", ")
-            ));
-        };
-        let Some(text) = pair.get(1) else {
-            return Err(format!("{} needs a number after it", pair[0]));
-        };
-        if values[at].is_some() {
-            return Err(format!("{} is given twice", pair[0]));
+    for item in items(options, &names) {
+        match item {
+            Item::Word(word) => {
+                let names = names.join(", ");
+                return Err(format!("'{word}' is no option here: right is {names}"));
+            }
+            Item::Alone(name) => return Err(format!("{name} needs a number after it")),
+            Item::NoNumber(name, text) => return Err(format!("{name}: {}", no_number(text))),
+            Item::Number(at, _) if values[at].is_some() => {
+                return Err(format!("{} is given twice", names[at]))
+            }
+            Item::Number(at, number) => values[at] = Some(number),
         }
-        values[at] = Some(number(text).map_err(|error| format!("{}: {error}", pair[0]))?);
     }
     Ok(values)
 }

@@ -1,8 +1,7 @@
-//! What a user's step reaches for in memory: its fetch, and the access of its word.
+//! What a step reaches for in memory, and how that goes: its fetch, and the access of its word. The second simulator says both.
 
-use crate::lifted::{access, masked};
-use crate::state::{View, SSE};
-use sporhulma::word::*;
+use crate::simulator::by_second;
+use second::{access, path, Access, Kind, Path};
 use sporhulma::Hart;
 
 pub const FETCH: &str = "fetch";
@@ -15,39 +14,34 @@ pub const KINDS: [&str; 6] = [FETCH, LOAD, STORE, PUSH, POP, SWAP];
 
 pub struct Reach {
     pub kind: &'static str,
-    /// The address before masking and after it.
-    pub plain: u64,
-    pub address: u64,
-    /// Whether it is under eight bytes.
-    pub narrow: bool,
+    pub access: Access,
+    pub path: Path,
 }
 
-pub fn fetch(hart: &Hart) -> Reach {
-    let pc = hart.rest[PC];
-    Reach {
-        kind: FETCH,
-        plain: pc,
-        address: pc,
-        narrow: true,
+impl Reach {
+    fn new(hart: &second::Hart, map: &[u64], size: usize, access: Access) -> Reach {
+        Reach {
+            kind: KINDS[access.kind as usize],
+            access,
+            path: path(hart, map, size, access),
+        }
     }
 }
 
-/// The access that a word makes.
-pub fn reach(hart: &Hart, word: u32) -> Option<Reach> {
-    let on = hart.rest[MENVCFG] & hart.rest[SENVCFG] & SSE != 0;
-    let ssp = hart.rest[SSP];
-    let (kind, plain, narrow) = match second::family(word) {
-        19 if on => (PUSH, ssp.wrapping_sub(8), false),
-        20 if on => (POP, ssp, false),
-        _ => {
-            let access = access(hart, word)?;
-            (access.kind, access.address, word >> 12 & 3 != 3)
-        }
+/// A step's fetch.
+pub fn fetch(hart: &Hart, map: &[u64], size: usize) -> Reach {
+    let hart = by_second(hart);
+    let access = Access {
+        kind: Kind::Fetch,
+        width: 4,
+        address: hart.pc,
     };
-    Some(Reach {
-        kind,
-        plain,
-        address: masked(&View::of(&hart.rest), plain),
-        narrow,
-    })
+    Reach::new(&hart, map, size, access)
+}
+
+/// The access that a word makes.
+pub fn reach(hart: &Hart, map: &[u64], size: usize, word: u32) -> Option<Reach> {
+    let hart = by_second(hart);
+    let access = access(&hart, word)?;
+    Some(Reach::new(&hart, map, size, access))
 }

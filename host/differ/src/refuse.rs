@@ -1,9 +1,10 @@
 //! The refusal table's rules, each broken alone and next to it the nearest value that is accepted.
 
 use crate::case::{Call, Case};
-use crate::random::Random;
-use crate::state::{DELEGATED, LPE, MLPE, PMM, SSE, STATUS, SV39, XLENS};
+use crate::state::XLENS;
 use crate::world::{lengthen, ENTRIES, NUMBERS};
+use formats::csr::field::*;
+use formats::random::Random;
 use formats::ECALL;
 use sporhulma::word::*;
 use sporhulma::MOST_STEPS;
@@ -68,8 +69,8 @@ fn forbidden_bit(random: &mut Random, case: &mut Case, broken: bool) {
         (SENVCFG, LPE | SSE | PMM),
         (SEPC, !3),
         (SATP, SV39),
-        (MSTATUS, STATUS | XLENS),
-        (MEDELEG, DELEGATED),
+        (MSTATUS, MSTATUS_FIELDS | XLENS),
+        (MEDELEG, MEDELEG_FIELDS),
         (MTVEC, !3),
         (MENVCFG, LPE | SSE | PMM),
         (MEPC, !3),
@@ -97,7 +98,7 @@ fn mask_field(random: &mut Random, case: &mut Case, broken: bool) {
     let word = random.pick(&[MENVCFG, SENVCFG, MSECCFG]);
     let right = random.pick(&[0, 2]);
     let value = if broken { 1 } else { right };
-    case.hart.rest[word] = case.hart.rest[word] & !PMM | value << 32;
+    case.hart.rest[word] = case.hart.rest[word] & !PMM | value << PMM_SHIFT;
 }
 
 fn mode(random: &mut Random, case: &mut Case, broken: bool) {

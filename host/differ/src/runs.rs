@@ -4,11 +4,11 @@ use crate::case::{Call, Case, PAGE};
 use crate::instruction::instruction;
 use crate::maker::Maker;
 use crate::program::{handler, program};
-use crate::random::Random;
 use crate::refuse;
 use crate::state::{keepers, lifting, registers, settings, View, LIFTED, LPE, SSE, SV39};
 use crate::ways::FIRST;
 use crate::world::{lengthen, write_map, Role, Wish, World, ENTRIES};
+use formats::random::Random;
 use formats::*;
 use sporhulma::word::*;
 
@@ -75,7 +75,7 @@ fn accepted(random: &mut Random, case: &mut Case) -> u64 {
     keepers(random, &world, 1, case);
     registers(random, case);
     let view = View::of(&case.hart.rest);
-    let user = view.data_mode == 0;
+    let user = view.data.mode == 0;
     let wish = Wish {
         user_code: view.mode == 0,
         user_data: user,
@@ -123,13 +123,13 @@ fn budget(random: &mut Random) -> u64 {
 
 /// The stack and the table into the data page, ssp into the shadow page, each with upper bits that masking changes.
 pub fn point(maker: &mut Maker) {
-    let sv39 = maker.view.data_sv39;
+    let sv39 = maker.view.data.paged;
     let table = maker.world.at(Role::Data, sv39, PAGE / 2);
     let stack = maker.world.at(Role::Data, sv39, PAGE - 64);
     let pointer = maker.world.at(Role::Shadow, sv39, PAGE / 2);
     // Where no bit is masked a tag ends most programs at their first access.
-    let tagged = !maker.view.lifted || maker.random.chance(25);
-    let masked = if tagged { maker.view.data_masked } else { 0 };
+    let tagged = !maker.view.data.spared || maker.random.chance(25);
+    let masked = if tagged { maker.view.data.bits } else { 0 };
     let (table, stack) = (maker.dirty(table, masked), maker.dirty(stack, masked));
     maker.case.set(8, table);
     maker.case.set(2, stack);
@@ -143,7 +143,7 @@ pub fn write(case: &mut Case, place: u64, words: &[u32]) {
 }
 
 pub fn write_handlers(maker: &mut Maker) {
-    for (start, mode, epc, back) in [(0, 3, 0x341, MRET), (S_HANDLER, 1, 0x141, SRET)] {
+    for (start, mode, epc, back) in [(0, 3, csr::MEPC, MRET), (S_HANDLER, 1, csr::SEPC, SRET)] {
         let words = handler(maker.random, mode, epc, back);
         write(maker.case, maker.world.offset(Role::Handler, start), &words);
     }
@@ -178,6 +178,6 @@ fn write_program(maker: &mut Maker) -> u64 {
         false => words,
     };
     write(maker.case, place, &words);
-    maker.case.hart.rest[PC] = maker.world.at(Role::Code, maker.view.fetch_sv39, start);
+    maker.case.hart.rest[PC] = maker.world.at(Role::Code, maker.view.fetch.paged, start);
     place
 }

@@ -9,7 +9,8 @@ use crate::hidden::Made;
 use crate::mix::list;
 use crate::named::{leaf, place, users, valid};
 use crate::reach::{fetch, reach, Reach, FETCH, KINDS, LOAD, POP, PUSH, STORE, SWAP};
-use crate::world::{A, D, U};
+use crate::world::U;
+use second::Reason;
 use sporhulma::word::*;
 use sporhulma::{Answer, Hart};
 use std::collections::BTreeMap;
@@ -126,9 +127,11 @@ impl Seen {
         let mut memory = std::mem::take(&mut self.memory);
         take_again(case, steps, &mut memory, |step| {
             if !matches!(case.call, Call::StepWord(_)) {
-                self.note_reach(&fetch(step.before), step.before, &case.map, &step.answer);
+                let fetch = fetch(step.before, &case.map, case.mem.len());
+                self.note_reach(&fetch, step.before, &case.map, &step.answer);
             }
-            if let Some(reach) = step.word.and_then(|word| reach(step.before, word)) {
+            let reach = |word| reach(step.before, &case.map, case.mem.len(), word);
+            if let Some(reach) = step.word.and_then(reach) {
                 self.note_reach(&reach, step.before, &case.map, &step.answer);
             }
             self.note_cause(&step.answer, step.after);
@@ -154,16 +157,15 @@ impl Seen {
     /// Counts what became of an access. A fetch is done where the word was carried out, even if that trapped.
     fn note_reach(&mut self, reach: &Reach, hart: &Hart, map: &[u64], answer: &Answer) {
         let kind = reach.kind;
-        let menvcfg = hart.rest[MENVCFG];
         let stops = match kind {
             FETCH => [1, 12],
             LOAD => [5, 13],
             _ => [7, 15],
         };
         let stopped = answer.trapped && stops.contains(&answer.cause);
-        let found = leaf(map, reach.address);
-        if let (true, Some(leaf)) = (stopped, found) {
-            if let Some(why) = self.reason(leaf, menvcfg, answer.cause) {
+        let found = leaf(map, reach.path.transformed);
+        if let (true, Some(leaf), Err(reason)) = (stopped, found, reach.path.place) {
+            if let Some(why) = self.reason(leaf, reason) {
                 self.count((kind, why));
             }
         }
@@ -179,18 +181,15 @@ impl Seen {
     }
 
     /// Why a leaf kept a user out, where that is one of the reasons that are counted.
-    fn reason(&self, leaf: u64, menvcfg: u64, cause: u64) -> Option<&'static str> {
-        let frame = self.named.get(place(leaf) as usize);
-        let hidden = frame == Some(&false);
+    fn reason(&self, leaf: u64, reason: Reason) -> Option<&'static str> {
+        let hidden = self.named.get(place(leaf) as usize) == Some(&false);
         let user = leaf & U != 0;
         let [closed, broken, idle, outside] = STOPPED;
-        // A page fault is 12 or more; an access fault has other reasons too.
-        match (cause >= 12, valid(leaf, menvcfg), user) {
-            (true, true, false) => hidden.then_some(closed),
-            (true, false, true) => hidden.then_some(broken),
-            (true, true, true) => (leaf & (A | D) != A | D).then_some(idle),
-            (false, true, true) => frame.is_none().then_some(outside),
-            _ => None,
+        match reason {
+            Reason::NotOfUser => hidden.then_some(closed),
+            Reason::NotAccessed | Reason::NotDirty => Some(idle),
+            Reason::Outside => Some(outside),
+            other => (other.rule() == 5 && user && hidden).then_some(broken),
         }
     }
 
@@ -203,8 +202,8 @@ impl Seen {
         let closed = others().any(|leaf| valid(leaf, menvcfg) && leaf & U == 0);
         let code = leaf(map, hart.rest[PC]).map(place);
         let are = [
-            reach.plain != reach.address,
-            reach.narrow,
+            reach.access.address != reach.path.transformed,
+            reach.access.width < 8,
             users > 1,
             closed,
             code == frame,
@@ -274,7 +273,7 @@ mod tests {
     use super::*;
     use crate::simulator::{Second, Simulator};
     use crate::state::SV39;
-    use crate::world::{R, V};
+    use crate::world::{A, D, R, V};
     use formats::{i, s};
 
     /// A user with a page of its own in the first frame and another's in the second.

@@ -15,17 +15,18 @@ pub struct Second;
 
 impl Simulator for Proved {
     fn call(&self, call: Call, hart: &mut Hart, mem: &mut [u8], map: &[u64]) -> Answer {
-        match call {
-            Call::Step => sporhulma::step(hart, mem, map),
-            Call::StepWord(word) => sporhulma::step_word(hart, mem, map, word),
-            Call::Run(budget) => sporhulma::run(hart, mem, map, budget),
-        }
+        sporhulma::call(call, hart, mem, map)
     }
+}
+
+/// A hart as the independent one takes it.
+pub fn by_second(hart: &Hart) -> second::Hart {
+    second::Hart::from_words(&hart.x, &hart.rest)
 }
 
 impl Simulator for Second {
     fn call(&self, call: Call, hart: &mut Hart, mem: &mut [u8], map: &[u64]) -> Answer {
-        let mut own = second::Hart::from_words(&hart.x, &hart.rest);
+        let mut own = by_second(hart);
         let answer = match call {
             Call::Step => second::step(&mut own, mem, map),
             Call::StepWord(word) => second::step_word(&mut own, mem, map, word),

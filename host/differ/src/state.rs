@@ -1,25 +1,18 @@
 //! The hart's words of a case: mode, CSRs and registers, legal ones, biased to what decides; and what follows from them.
 
+pub use formats::csr::field::{
+    LPE, MEDELEG_FIELDS, MLPE, MPP, MPP_SHIFT, MPRV, MSTATUS_FIELDS, MXR, PMM, PMM_SHIFT, SSE, SUM,
+    SV39,
+};
+
 use crate::case::{Case, PAGE};
-use crate::random::Random;
 use crate::world::{Role, World};
+use formats::random::Random;
+use second::{Kind, Regime};
 use sporhulma::word::*;
 
 /// UXL and SXL as every mstatus word holds them.
 pub const XLENS: u64 = sporhulma::MSTATUS_CLEAR;
-/// The bits of mstatus that a write may change.
-pub const STATUS: u64 =
-    1 << 1 | 1 << 3 | 1 << 5 | 1 << 7 | 1 << 8 | MPP | MPRV | SUM | MXR | 1 << 23 | 1 << 41;
-pub const MPP: u64 = 3 << 11;
-pub const MPRV: u64 = 1 << 17;
-pub const SUM: u64 = 1 << 18;
-pub const MXR: u64 = 1 << 19;
-pub const DELEGATED: u64 = 0x4B3FF;
-pub const LPE: u64 = 1 << 2;
-pub const SSE: u64 = 1 << 3;
-pub const MLPE: u64 = 1 << 10;
-pub const PMM: u64 = 3 << 32;
-pub const SV39: u64 = 8 << 60;
 
 /// Of a hundred cases so many are made for request A2.
 pub const LIFTED: u64 = 11;
@@ -28,58 +21,25 @@ pub const LIFTED: u64 = 11;
 #[derive(Clone, Copy)]
 pub struct View {
     pub mode: u64,
-    /// The mode of loads, stores and swaps.
-    pub data_mode: u64,
-    /// Whether satp says Sv39, and whether it is in force.
+    /// Whether satp says Sv39; whether it is in force stands in the next two.
     pub sv39: bool,
-    pub fetch_sv39: bool,
-    pub data_sv39: bool,
-    /// How many upper bits the mode's PMM masks in data addresses, and would in the fetch address if it were masked.
-    pub data_masked: u32,
-    pub fetch_masked: u32,
-    /// Whether loads, stores and swaps are not masked all the same (request A2): in M with MPRV and MXR both set.
-    pub lifted: bool,
+    /// Of fetches; its bits are those that the mode's PMM would mask in the fetch address if it were masked.
+    pub fetch: Regime,
+    /// Of loads, stores and swaps. They are spared by request A2: in M with MPRV and MXR both set.
+    pub data: Regime,
     pub pads: bool,
 }
 
 impl View {
     pub fn of(rest: &[u64; 20]) -> View {
-        let mode = rest[MODE];
-        let mprv = mode == 3 && rest[MSTATUS] & MPRV != 0;
-        let data_mode = if mprv {
-            (rest[MSTATUS] & MPP) >> 11
-        } else {
-            mode
-        };
-        let sv39 = |mode| mode < 3 && rest[SATP] == SV39;
+        let hart = second::Hart::from_words(&[0; 32], rest);
         View {
-            mode,
-            data_mode,
-            sv39: rest[SATP] == SV39,
-            fetch_sv39: sv39(mode),
-            data_sv39: sv39(data_mode),
-            data_masked: masked(rest, data_mode),
-            fetch_masked: masked(rest, mode),
-            lifted: mprv && rest[MSTATUS] & MXR != 0,
-            pads: match mode {
-                0 => rest[SENVCFG] & LPE != 0,
-                1 => rest[MENVCFG] & LPE != 0,
-                _ => rest[MSECCFG] & MLPE != 0,
-            },
+            mode: hart.mode,
+            sv39: hart.satp == SV39,
+            fetch: Regime::of(&hart, Kind::Fetch),
+            data: Regime::of(&hart, Kind::Load),
+            pads: second::pads_on(&hart),
         }
-    }
-}
-
-fn masked(rest: &[u64; 20], mode: u64) -> u32 {
-    let word = match mode {
-        0 => rest[SENVCFG],
-        1 => rest[MENVCFG],
-        _ => rest[MSECCFG],
-    };
-    match (word & PMM) >> 32 {
-        2 => 7,
-        3 => 16,
-        _ => 0,
     }
 }
 
@@ -96,9 +56,9 @@ pub fn settings(random: &mut Random, case: &mut Case) {
     let rest = &mut case.hart.rest;
     rest[MODE] = random.pick(&[0, 0, 0, 1, 1, 1, 3, 3]);
     rest[SATP] = sometimes(random, 75, SV39);
-    let mpp = random.pick(&[0, 0, 1, 1, 3]) << 11;
+    let mpp = random.pick(&[0, 0, 1, 1, 3]) << MPP_SHIFT;
     let often = MPRV | SUM | MXR;
-    rest[MSTATUS] = XLENS | random.word() & STATUS & !(MPP | often) | mpp;
+    rest[MSTATUS] = XLENS | random.word() & MSTATUS_FIELDS & !(MPP | often) | mpp;
     rest[MSTATUS] |= sometimes(random, 50, MPRV) | sometimes(random, 70, SUM);
     rest[MSTATUS] |= sometimes(random, 50, MXR);
     for (word, enables) in [
@@ -106,13 +66,13 @@ pub fn settings(random: &mut Random, case: &mut Case) {
         (SENVCFG, [LPE, SSE]),
         (MSECCFG, [MLPE, 0]),
     ] {
-        rest[word] = random.pick(&[0, 2, 3]) << 32;
+        rest[word] = random.pick(&[0, 2, 3]) << PMM_SHIFT;
         rest[word] |= sometimes(random, 40, enables[0]) | sometimes(random, 80, enables[1]);
     }
     rest[MEDELEG] = match random.below(4) {
         0 => 0,
-        1 => DELEGATED,
-        _ => random.word() & DELEGATED,
+        1 => MEDELEG_FIELDS,
+        _ => random.word() & MEDELEG_FIELDS,
     };
     rest[ELP] = u64::from(random.chance(15));
 }
@@ -121,7 +81,7 @@ pub fn settings(random: &mut Random, case: &mut Case) {
 pub fn lifting(random: &mut Random, case: &mut Case) {
     let rest = &mut case.hart.rest;
     rest[MODE] = 3;
-    rest[MSTATUS] = rest[MSTATUS] & !MPP | MPRV | MXR | random.pick(&[0, 1, 3]) << 11;
+    rest[MSTATUS] = rest[MSTATUS] & !MPP | MPRV | MXR | random.pick(&[0, 1, 3]) << MPP_SHIFT;
 }
 
 /// The words that only keep something: scratch, cause, tval, the handlers' addresses and where they return to;

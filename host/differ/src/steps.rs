@@ -3,10 +3,10 @@
 use crate::case::{Call, Case, PAGE};
 use crate::instruction::{instruction, moved_by_mprv};
 use crate::maker::Maker;
-use crate::random::Random;
 use crate::refuse;
 use crate::state::{keepers, lifting, registers, settings, View, LIFTED, SUM};
 use crate::world::{resize_map, write_map, Role, Wish, World};
+use formats::random::Random;
 use sporhulma::word::{MSTATUS, PC, SSP};
 
 /// Keeps the streams of steps apart from those of runs.
@@ -74,7 +74,7 @@ fn accepted(random: &mut Random, case: &mut Case) -> Option<u32> {
 fn wish(random: &mut Random, view: &View, sum: bool) -> Wish {
     Wish {
         user_code: view.mode == 0,
-        user_data: match view.data_mode {
+        user_data: match view.data.mode {
             0 => true,
             _ if sum => random.chance(50),
             _ => random.chance(10),
@@ -92,10 +92,10 @@ pub fn fetch(maker: &mut Maker, word: u32) -> Option<u32> {
         1 => PAGE - 4,
         _ => maker.random.below(PAGE / 4) * 4,
     };
-    let plain = maker.world.at(Role::Code, maker.view.fetch_sv39, low);
+    let plain = maker.world.at(Role::Code, maker.view.fetch.paged, low);
     let pc = match maker.random.below(64) {
         0..=2 => maker.edge(4),
-        3 | 4 => maker.dirty(plain, maker.view.fetch_masked),
+        3 | 4 => maker.dirty(plain, maker.view.fetch.bits),
         5 if given => maker.random.word(),
         _ => plain,
     };
@@ -107,6 +107,6 @@ pub fn fetch(maker: &mut Maker, word: u32) -> Option<u32> {
     };
     let place = maker.world.offset(Role::Code, low);
     maker.case.poke(place, &word.to_le_bytes());
-    let leads = !maker.view.fetch_sv39 || maker.world.leads(Role::Code, &maker.case.map);
+    let leads = !maker.view.fetch.paged || maker.world.leads(Role::Code, &maker.case.map);
     (given || pc == plain && leads).then_some(word)
 }

@@ -5,6 +5,7 @@
 //! Lines that start with # are comments.
 
 use crate::case::{Call, Case, BASE};
+use formats::number::unsigned;
 use sporhulma::{Hart, REST};
 use std::fmt::Write;
 
@@ -128,13 +129,13 @@ fn read_row(case: &mut Case, address: u64, digits: &str) -> Result<(), String> {
     Ok(())
 }
 
-/// A number of 64 bits, decimal or hexadecimal with 0x.
-pub fn number(text: &str) -> Result<u64, String> {
-    let parsed = match text.strip_prefix("0x") {
-        Some(digits) => u64::from_str_radix(digits, 16),
-        None => text.parse(),
-    };
-    parsed.map_err(|_| format!("'{text}' is no number of 64 bits: right is 17 or 0x11"))
+/// A number of 64 bits.
+fn number(text: &str) -> Result<u64, String> {
+    unsigned(text).map_err(|_| no_number(text))
+}
+
+pub fn no_number(text: &str) -> String {
+    format!("'{text}' is no number of 64 bits: right is 17 or 0x11")
 }
 
 #[cfg(test)]

@@ -5,13 +5,12 @@
 //! over: a pop-check there would pass.
 
 use crate::program::{Program, RA, TABLE};
-use crate::random::Random;
+use formats::csr::SSP;
+use formats::random::Random;
 use formats::*;
 
 pub const VISITED: std::ops::Range<u32> = 19..28;
 pub const GUESS: u32 = 16;
-
-const SSP: u64 = 0x011;
 
 /// A program of a user: loads and stores first, so that few programs end without any, then blocks with visits.
 pub fn visitor(random: &mut Random) -> Vec<u32> {
@@ -98,20 +97,20 @@ impl Program<'_> {
     /// The shadow stack's own page has its address in ssp alone.
     fn swap_at_ssp(&mut self) {
         let at = self.scratch();
-        self.words.push(i(SYSTEM, 2, at, 0, SSP));
+        self.words.push(zicsr(2, at, SSP, 0));
         self.swap(at);
     }
 
     fn push_there(&mut self) {
         let there = self.there();
         let link = self.random.pick(&[1, 5]);
-        self.words.push(i(SYSTEM, 1, 0, there, SSP));
+        self.words.push(zicsr(1, 0, SSP, there));
         self.words.push(push(link));
     }
 
     fn pop_there(&mut self) {
         let there = self.there();
-        self.words.push(i(SYSTEM, 1, 0, there, SSP));
+        self.words.push(zicsr(1, 0, SSP, there));
         self.words.push(i(OP_IMM, 0, 5, GUESS, 0));
         self.words.push(pop_check(5));
     }

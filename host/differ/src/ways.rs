@@ -5,9 +5,10 @@
 //! counted anew behind each slow step; the run counts them over slow steps, and so begins the fast path as early or earlier.
 
 use crate::again::Step;
-use crate::state::SSE;
-use sporhulma::word::{ELP, MENVCFG, MODE, SENVCFG};
-use sporhulma::Hart;
+use crate::simulator::by_second;
+use formats::csr::{MENVCFG, MSECCFG, MSTATUS, SATP, SENVCFG, SSTATUS};
+use sporhulma::word::{ELP, MODE};
+use sporhulma::{family, Hart};
 
 /// So many steps go the quick way before the fast path begins.
 pub const FIRST: u64 = 1024;
@@ -88,12 +89,7 @@ impl Ways {
 
 /// Whether pushes and pop-checks do something in the hart's mode.
 fn shadowed(hart: &Hart) -> bool {
-    let [menvcfg, senvcfg] = [MENVCFG, SENVCFG].map(|csr| hart.rest[csr] & SSE != 0);
-    match hart.rest[MODE] {
-        0 => menvcfg && senvcfg,
-        1 => menvcfg,
-        _ => false,
-    }
+    second::shadow_stack_on(&by_second(hart))
 }
 
 /// A CSR instruction with a register on scratch, epc, cause or tval, in a mode that has it.
@@ -109,25 +105,35 @@ fn handles(mode: u64, word: u32) -> bool {
 fn quick_does(step: &Step, word: u32) -> bool {
     !step.answer.trapped
         && match second::family(word) {
-            1..=11 => step.after.rest[ELP] == 0,
-            17 => handles(step.before.rest[MODE], word),
-            19 | 20 => shadowed(step.before),
+            family::LUI..=family::OP_32 => step.after.rest[ELP] == 0,
+            family::CSR => handles(step.before.rest[MODE], word),
+            family::PUSH | family::POP => shadowed(step.before),
             _ => false,
         }
 }
 
 /// Whether the fast path does a step: beside what the quick way does, FENCE, SSRDP, and what writes 0 and no more.
 pub fn fast_does(step: &Step, word: u32) -> bool {
-    let more = matches!(second::family(word), 12 | 18 | 19 | 20 | 22 | 23);
+    let more = matches!(
+        second::family(word),
+        family::FENCE
+            | family::READ_SSP
+            | family::PUSH
+            | family::POP
+            | family::MOP_R
+            | family::MOP_RR
+    );
     more && !step.answer.trapped || quick_does(step, word)
 }
 
 /// Whether a word may change the setting: a return, or a CSR instruction that writes one of its words.
 fn switches(word: u32) -> bool {
-    const CSRS: [u32; 6] = [0x100, 0x10A, 0x180, 0x300, 0x30A, 0x747];
+    const CSRS: [u16; 6] = [SSTATUS, SENVCFG, SATP, MSTATUS, MENVCFG, MSECCFG];
     match second::family(word) {
-        15 | 16 => true,
-        17 => CSRS.contains(&(word >> 20)) && (word >> 12 & 3 == 1 || word >> 15 & 31 != 0),
+        family::SRET | family::MRET => true,
+        family::CSR => {
+            CSRS.contains(&((word >> 20) as u16)) && (word >> 12 & 3 == 1 || word >> 15 & 31 != 0)
+        }
         _ => false,
     }
 }

@@ -1,7 +1,7 @@
 //! The pages of a case: one for each role, where it lies in memory, its virtual page number and its leaf in the map.
 
 use crate::case::{Case, BASE, PAGE};
-use crate::random::Random;
+use formats::random::Random;
 
 /// What a page is for. The number is its place in `World::pages`.
 #[derive(Clone, Copy, PartialEq, Eq, Debug)]
@@ -27,22 +27,7 @@ pub struct World {
     pub pages: [Page; ROLES],
 }
 
-pub const V: u64 = 1;
-pub const R: u64 = 2;
-pub const W: u64 = 4;
-pub const X: u64 = 8;
-pub const U: u64 = 16;
-pub const A: u64 = 64;
-pub const D: u64 = 128;
-/// The frame number's bits, 53:10.
-pub const FRAME: u64 = ((1 << 44) - 1) << 10;
-/// The bits of a leaf that must be 0, 63:54.
-pub const RESERVED: u64 = !0 << 54;
-
-/// One more than the largest virtual page number.
-pub const NUMBERS: u64 = 1 << 27;
-/// The most entries that a map may have.
-pub const ENTRIES: usize = 64;
+pub use formats::leaf::{address, A, D, ENTRIES, FRAME, NUMBERS, R, RESERVED, U, V, W, X};
 
 impl World {
     /// Pages with places below `mem_pages` and numbers near an edge of the address space or anywhere in it.
@@ -89,11 +74,6 @@ impl World {
     pub fn offset(&self, role: Role, offset: u64) -> u64 {
         self.pages[role as usize].place * PAGE + offset
     }
-}
-
-/// The virtual address of a page's first byte.
-pub fn address(number: u64) -> u64 {
-    ((number << 37) as i64 >> 25) as u64
 }
 
 /// The leaf of a page without its frame, as its role wants it when U is `user`.

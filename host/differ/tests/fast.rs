@@ -11,6 +11,7 @@ use differ::patches::store::{stored, Stored, PUSH};
 use differ::simulator::{Second, Simulator};
 use differ::soak::Soak;
 use differ::ways::{fast_does, Way, Ways};
+use second::Kind;
 use sporhulma::word::PC;
 use sporhulma::{Answer, Hart, MOST_STEPS};
 
@@ -133,7 +134,7 @@ impl Fast {
             memo.entries[slot] = Some(Entry { pc, word, at });
             if let Some(access) = access(&before, word) {
                 let page = access.address / PAGE;
-                let kind = usize::from(access.kind == "store");
+                let kind = usize::from(access.kind == Kind::Store);
                 memo.pages[kind][(page % PAGES) as usize] = Some(page);
             }
             if let Some(stored) = stored(&before, word, map) {
@@ -166,7 +167,7 @@ impl Fast {
             return false;
         };
         let page = access.address / PAGE;
-        let kind = usize::from(access.kind == "store");
+        let kind = usize::from(access.kind == Kind::Store);
         let at = (page % PAGES) as usize;
         (self.0.passes)(&Trapped {
             cause: answer.cause,

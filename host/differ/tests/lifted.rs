@@ -3,10 +3,11 @@
 //! They are planted where the word is handed in, so that the wrapper knows it.
 
 use differ::case::Call;
-use differ::lifted::{access, masked, Access};
+use differ::lifted::access;
 use differ::simulator::{Second, Simulator};
 use differ::soak::{Failure, Soak};
 use differ::state::{View, MPRV, MXR, PMM};
+use second::{Access, Kind};
 use sporhulma::word::*;
 use sporhulma::{Answer, Hart};
 
@@ -14,7 +15,7 @@ use sporhulma::{Answer, Hart};
 const STEPS: u64 = 50_000;
 
 /// When masking is lifted: by the hart's words, what they mean, and the kind of access.
-type Rule = fn(&[u64; 20], &View, &str) -> bool;
+type Rule = fn(&[u64; 20], &View, Kind) -> bool;
 
 /// `second` with another rule in the place of A2's.
 struct Lifts(Rule);
@@ -29,7 +30,7 @@ impl Simulator for Lifts {
             return Second.call(call, hart, mem, map);
         };
         let view = View::of(&hart.rest);
-        match (view.lifted, self.0(&hart.rest, &view, access.kind)) {
+        match (view.data.spared, self.0(&hart.rest, &view, access.kind)) {
             (true, false) => with_mask(word, access, hart, mem, map),
             (false, true) => without_masks(word, hart, mem, map),
             _ => Second.call(call, hart, mem, map),
@@ -41,15 +42,18 @@ impl Simulator for Lifts {
 fn with_mask(word: u32, access: Access, hart: &mut Hart, mem: &mut [u8], map: &[u64]) -> Answer {
     let call = Call::StepWord(word);
     let [rd, rs1, rs2] = [7, 15, 20].map(|at| (word >> at) as usize & 31);
-    let reads_it_twice = access.kind != "load" && rs1 == rs2;
+    let reads_it_twice = access.kind != Kind::Load && rs1 == rs2;
     if rs1 == 0 || reads_it_twice {
         return Second.call(call, hart, mem, map);
     }
     let address = hart.x[rs1];
-    let change = masked(&View::of(&hart.rest), access.address).wrapping_sub(access.address);
+    let change = View::of(&hart.rest)
+        .data
+        .masked(access.address)
+        .wrapping_sub(access.address);
     hart.x[rs1] = address.wrapping_add(change);
     let answer = Second.call(call, hart, mem, map);
-    let written = access.kind != "store" && rd == rs1 && !answer.trapped;
+    let written = access.kind != Kind::Store && rd == rs1 && !answer.trapped;
     if !written || answer.refusal != 0 {
         hart.x[rs1] = address;
     }
@@ -106,15 +110,15 @@ fn masking_as_it_was_before() {
 #[test]
 fn masking_for_one_mode_in_mpp() {
     assert_eq!(
-        met(|_, view, _| view.lifted && view.data_mode != 0),
+        met(|_, view, _| view.data.spared && view.data.mode != 0),
         BOTH_IN_M
     );
     assert_eq!(
-        met(|_, view, _| view.lifted && view.data_mode != 1),
+        met(|_, view, _| view.data.spared && view.data.mode != 1),
         BOTH_IN_M
     );
     assert_eq!(
-        met(|_, view, _| view.lifted && view.data_mode != 3),
+        met(|_, view, _| view.data.spared && view.data.mode != 3),
         BOTH_IN_M
     );
 }
@@ -122,23 +126,29 @@ fn masking_for_one_mode_in_mpp() {
 #[test]
 fn masking_for_one_kind_of_access() {
     assert_eq!(
-        met(|_, view, kind| view.lifted && kind != "load"),
+        met(|_, view, kind| view.data.spared && kind != Kind::Load),
         BOTH_IN_M
     );
     assert_eq!(
-        met(|_, view, kind| view.lifted && kind != "store"),
+        met(|_, view, kind| view.data.spared && kind != Kind::Store),
         BOTH_IN_M
     );
     assert_eq!(
-        met(|_, view, kind| view.lifted && kind != "swap"),
+        met(|_, view, kind| view.data.spared && kind != Kind::Swap),
         BOTH_IN_M
     );
 }
 
 #[test]
 fn masking_under_sv39_or_elsewhere() {
-    assert_eq!(met(|_, view, _| view.lifted && !view.data_sv39), BOTH_IN_M);
-    assert_eq!(met(|_, view, _| view.lifted && view.data_sv39), BOTH_IN_M);
+    assert_eq!(
+        met(|_, view, _| view.data.spared && !view.data.paged),
+        BOTH_IN_M
+    );
+    assert_eq!(
+        met(|_, view, _| view.data.spared && view.data.paged),
+        BOTH_IN_M
+    );
 }
 
 #[test]
@@ -169,8 +179,8 @@ impl Simulator for MasksTval {
         let view = View::of(&hart.rest);
         let answer = Second.call(call, hart, mem, map);
         let faulted = answer.trapped && [4, 5, 6, 7, 13, 15].contains(&answer.cause);
-        if matches!(call, Call::StepWord(_)) && view.lifted && faulted {
-            hart.rest[MTVAL] = masked(&view, hart.rest[MTVAL]);
+        if matches!(call, Call::StepWord(_)) && view.data.spared && faulted {
+            hart.rest[MTVAL] = view.data.masked(hart.rest[MTVAL]);
         }
         answer
     }
@@ -186,7 +196,7 @@ fn tval_masked_although_the_address_is_not() {
 /// With A2's own rule the wrapper is `second`: what the tests above find is the rule and nothing else.
 #[test]
 fn the_rule_itself_no_difference() {
-    let mut soak = Soak::new(Lifts(|_, view, _| view.lifted), Second, 1);
+    let mut soak = Soak::new(Lifts(|_, view, _| view.data.spared), Second, 1);
     (0..STEPS).for_each(|number| soak.step(number));
     assert!(soak.failures.is_empty());
 }

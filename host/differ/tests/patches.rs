@@ -183,7 +183,7 @@ fn found(name: &str, fault: Fault) -> [Failure; 3] {
 /// Whether an entry's pc is not the address by which its word was stored to, though both are addresses of Sv39.
 fn by_another_name(meeting: &Meeting) -> bool {
     let address = (meeting.stored.address & !3) + 4 * u64::from(meeting.second);
-    View::of(&meeting.hart.rest).fetch_sv39 && meeting.pc != address
+    View::of(&meeting.hart.rest).fetch.paged && meeting.pc != address
 }
 
 #[test]

@@ -35,12 +35,12 @@ struct MaskedFetch;
 impl Simulator for MaskedFetch {
     fn call(&self, call: Call, hart: &mut Hart, mem: &mut [u8], map: &[u64]) -> Answer {
         let view = View::of(&hart.rest);
-        let place = (hart.rest[PC] << view.fetch_masked >> view.fetch_masked).wrapping_sub(BASE);
+        let place = (hart.rest[PC] << view.fetch.bits >> view.fetch.bits).wrapping_sub(BASE);
         let word = usize::try_from(place)
             .ok()
             .and_then(|at| mem.get(at..)?.first_chunk::<4>());
         match (call, word) {
-            (Call::Step, Some(word)) if !view.fetch_sv39 => {
+            (Call::Step, Some(word)) if !view.fetch.paged => {
                 let word = u32::from_le_bytes(*word);
                 Second.call(Call::StepWord(word), hart, mem, map)
             }
@@ -87,7 +87,7 @@ fn ssp_moved_before_the_store_was_allowed() {
 #[test]
 fn the_fetch_address_masked() {
     let rest = found(MaskedFetch).case.hart.rest;
-    let masked = View::of(&rest).fetch_masked;
+    let masked = View::of(&rest).fetch.bits;
     assert_ne!(rest[PC] << masked >> masked, rest[PC]);
 }
 

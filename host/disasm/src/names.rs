@@ -1,30 +1,11 @@
 //! The names of registers (ABI) and of the CSRs that docs/HART.md, 5.1, lists.
 
+use formats::csr::ALL as CSRS;
+
 const REGISTERS: [&str; 32] = [
     "zero", "ra", "sp", "gp", "tp", "t0", "t1", "t2", "s0", "s1", "a0", "a1", "a2", "a3", "a4",
     "a5", "a6", "a7", "s2", "s3", "s4", "s5", "s6", "s7", "s8", "s9", "s10", "s11", "t3", "t4",
     "t5", "t6",
-];
-
-const CSRS: [(u16, &str); 18] = [
-    (0x011, "ssp"),
-    (0x100, "sstatus"),
-    (0x105, "stvec"),
-    (0x10a, "senvcfg"),
-    (0x140, "sscratch"),
-    (0x141, "sepc"),
-    (0x142, "scause"),
-    (0x143, "stval"),
-    (0x180, "satp"),
-    (0x300, "mstatus"),
-    (0x302, "medeleg"),
-    (0x305, "mtvec"),
-    (0x30a, "menvcfg"),
-    (0x340, "mscratch"),
-    (0x341, "mepc"),
-    (0x342, "mcause"),
-    (0x343, "mtval"),
-    (0x747, "mseccfg"),
 ];
 
 /// The ABI name of register `n`: `register(10)` is `a0`. Panics if there is no register `n`.

@@ -1,10 +1,16 @@
 //! Words of the base formats from their fields, as the unprivileged manual draws them: what differ, outside and bench make
-//! their programs with. The second simulator does not use it. `extensions` has the instructions of M and Zbb by name and those
-//! beside them, by which the desk names an illegal word; `corners` has what they are tried with. `hex` writes Intel HEX.
+//! their programs with. `extensions` has the instructions of M and Zbb by name and those
+//! beside them, by which the desk names an illegal word; `corners` has what they are tried with. `hex` writes Intel HEX. `csr` and `leaf` are the
+//! second simulator's: the places of fields in CSRs and in leaves of the map, as it has them from the text. It uses nothing from here.
+//! `random` has the numbers that programs and cases are drawn with, and `number` reads one that was typed.
 
 pub mod corners;
 pub mod extensions;
 pub mod hex;
+pub mod number;
+pub mod random;
+
+pub use second::{csrs as csr, leaf};
 
 pub const LOAD: u32 = 0x03;
 pub const MISC_MEM: u32 = 0x0F;
@@ -62,6 +68,11 @@ pub fn j(rd: u32, offset: u64) -> u32 {
         | ((offset >> 11) & 1) << 8
         | (offset >> 12) & 0xFF;
     u(JAL, rd, upper)
+}
+
+/// A CSR instruction; `source` is rs1, or the immediate where funct3 is 5 to 7.
+pub fn zicsr(funct3: u32, rd: u32, address: u16, source: u32) -> u32 {
+    i(SYSTEM, funct3, rd, source, address.into())
 }
 
 /// MOP.R.n, `number` 0 to 31.

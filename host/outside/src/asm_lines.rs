@@ -7,8 +7,8 @@
 
 use crate::assembler::{assembled, refused_lines, text, unreadable};
 use crate::gnu;
-use crate::random::Random;
 use crate::report::Report;
+use crate::stream;
 use crate::words::{sample, BASE};
 use std::collections::BTreeSet;
 
@@ -100,9 +100,9 @@ pub fn compare(seed: u64) -> Result<u64, String> {
 
 /// The lines that as can read; the others are counted.
 fn lines(report: &mut Report, seed: u64) -> Vec<String> {
-    let random = &mut Random::new(seed, 0xA1);
+    let random = &mut stream(seed, 0xA1);
     let legal = |word: &u32| sporhulma::family(*word) != 0;
-    let drawn = std::iter::repeat_with(|| random.next() as u32 | 3);
+    let drawn = std::iter::repeat_with(|| random.word() as u32 | 3);
     let drawn = drawn.filter(legal).take(RANDOM);
     let words = sample(seed).into_iter().filter(legal).chain(drawn);
     let mut lines = Vec::new();

@@ -1,8 +1,8 @@
 //! Words from fields: what the generator of programs is written with, with signed immediates.
 
 pub use formats::{
-    r as r_type, u as u_type, AUIPC, EBREAK, ECALL, JALR, LOAD, LUI, MISC_MEM, MRET, OP, OP_32,
-    OP_IMM, OP_IMM_32, SRET, SYSTEM,
+    r as r_type, u as u_type, zicsr as csr, AUIPC, EBREAK, ECALL, JALR, LOAD, LUI, MISC_MEM, MRET,
+    OP, OP_32, OP_IMM, OP_IMM_32, SRET, SYSTEM,
 };
 
 /// Format I; the immediate's low 12 bits count.
@@ -26,18 +26,13 @@ pub fn addi(rd: u32, rs1: u32, immediate: i32) -> u32 {
     i_type(OP_IMM, 0, rd, rs1, immediate)
 }
 
-/// A CSR instruction; `source` is rs1, or the immediate where funct3 is 5 to 7.
-pub fn csr(funct3: u32, rd: u32, csr: u32, source: u32) -> u32 {
-    formats::i(SYSTEM, funct3, rd, source, csr.into())
-}
-
 /// csrr rd,csr
-pub fn csr_read(rd: u32, address: u32) -> u32 {
+pub fn csr_read(rd: u32, address: u16) -> u32 {
     csr(2, rd, address, 0)
 }
 
 /// csrw csr,rs1
-pub fn csr_write(address: u32, rs1: u32) -> u32 {
+pub fn csr_write(address: u16, rs1: u32) -> u32 {
     csr(1, 0, address, rs1)
 }
 

@@ -3,8 +3,8 @@
 //! read by both.
 
 use crate::gnu;
-use crate::random::Random;
 use crate::report::Report;
+use crate::stream;
 use formats::hex::text;
 use sporhulma::{Loaded, BASE};
 use std::path::PathBuf;
@@ -98,9 +98,9 @@ fn images(seed: u64) -> Result<Vec<Image>, String> {
         let bytes = bytes(&format!("examples/torque/{name}.bin"))?;
         images.push(Image::new(name, bytes, BASE)?);
     }
-    let random = &mut Random::new(seed, 1);
+    let random = &mut stream(seed, 1);
     for (length, place) in [(MEMORY, 0), (200_003, 0xFFFD), (70_001, MEMORY - 70_001)] {
-        let bytes = (0..length).map(|_| random.next() as u8).collect();
+        let bytes = (0..length).map(|_| random.word() as u8).collect();
         let address = BASE + place as u64;
         let name = format!("{length} bytes from {address:#x} on");
         images.push(Image::new(&name, bytes, address)?);
@@ -253,14 +253,14 @@ fn ours(report: &mut Report, image: &Image) -> Result<(), String> {
 fn linked(report: &mut Report, seed: u64) -> Result<(), String> {
     let demo = [(".text", BASE, "examples/torque/torque.bin".to_string())];
     link(report, "the demo", &demo, BASE)?;
-    let random = &mut Random::new(seed, 2);
+    let random = &mut stream(seed, 2);
     let mut sections = Vec::new();
     for (name, address, length) in [
         (".text", BASE, 50_001),
         (".data", 0x8001_2345, 150_000),
         (".far", 0x800F_FFB3, 77),
     ] {
-        let data: Vec<u8> = (0..length).map(|_| random.next() as u8).collect();
+        let data: Vec<u8> = (0..length).map(|_| random.word() as u8).collect();
         let file = path(&format!("hex{name}.bin"))?;
         gnu::write(&PathBuf::from(&file), &data)?;
         sections.push((name, address, file));

@@ -16,14 +16,14 @@ mod objdump;
 mod options;
 mod program;
 mod qemu;
-mod random;
 mod report;
 mod side;
 mod words;
 
+use formats::random::Random;
 use options::{Comparison, Options};
-use report::say;
 use std::process::ExitCode;
+use terminal::say;
 
 const HELP: &str = "\
 tools/outside [COMPARISON] [OPTION ..]: the hart, its disassembler and assembler, its loader of Intel HEX and
@@ -51,22 +51,27 @@ fn main() -> ExitCode {
     let options = match options::read(&given) {
         Ok(Some(options)) => options,
         Ok(None) => {
-            say(HELP);
+            say!("{HELP}");
             return ExitCode::SUCCESS;
         }
         Err(wrong) => return failed(&wrong),
     };
     match compare(&options) {
         Ok(0) => {
-            say("outside: no difference");
+            say!("outside: no difference");
             ExitCode::SUCCESS
         }
         Ok(differences) => {
-            say(format!("outside: differences: {differences}"));
+            say!("outside: differences: {differences}");
             ExitCode::FAILURE
         }
         Err(wrong) => failed(&wrong),
     }
+}
+
+/// The stream number `number` of `seed`: streams of one seed have nothing in common.
+fn stream(seed: u64, number: u64) -> Random {
+    Random::new(Random::new(seed).word() ^ Random::new(number).word())
 }
 
 fn failed(wrong: &str) -> ExitCode {

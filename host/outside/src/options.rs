@@ -1,6 +1,7 @@
 //! The command line: which comparisons, from which seed, and which of the programs.
 
 use std::ops::Range;
+use terminal::options::{items, Item};
 
 #[derive(Clone, Copy, PartialEq, Eq, Debug)]
 pub enum Comparison {
@@ -40,17 +41,24 @@ pub fn read(given: &[String]) -> Result<Option<Options>, String> {
         seed: 1,
         programs: 0..40,
     };
-    let mut rest = given.iter();
-    while let Some(argument) = rest.next() {
-        match argument.as_str() {
-            "--help" | "-h" => return Ok(None),
-            "--seed" => options.seed = number(argument, rest.next())?,
-            "--programs" => options.programs = 0..number(argument, rest.next())?,
-            "--program" => {
-                let program = number(argument, rest.next())?;
-                options.programs = program..program.saturating_add(1);
+    let given: Vec<&str> = given.iter().map(String::as_str).collect();
+    for item in items(&given, &["--seed", "--programs", "--program"]) {
+        match item {
+            Item::Word("--help" | "-h") => return Ok(None),
+            Item::Word(name) => options.comparisons.push(comparison(name)?),
+            Item::Alone(option) => {
+                return Err(format!(
+                    "{option}: a number must follow, such as {option} 7"
+                ))
             }
-            name => options.comparisons.push(comparison(name)?),
+            Item::NoNumber(option, value) => {
+                return Err(format!(
+                    "{option}: {value} is not a number from 0 to 18446744073709551615, such as 7"
+                ))
+            }
+            Item::Number(0, seed) => options.seed = seed,
+            Item::Number(1, count) => options.programs = 0..count,
+            Item::Number(_, program) => options.programs = program..program.saturating_add(1),
         }
     }
     if options.comparisons.is_empty() {
@@ -63,14 +71,6 @@ fn comparison(name: &str) -> Result<Comparison, String> {
     let known = COMPARISONS.iter().find(|(known, _)| *known == name);
     known.map(|(_, comparison)| *comparison).ok_or_else(|| {
         format!("{name}: no such comparison or option; there are objdump, as, asm, qemu, patches, image, hex, c, --seed S, --programs N and --program N")
-    })
-}
-
-fn number(option: &str, value: Option<&String>) -> Result<u64, String> {
-    let value =
-        value.ok_or_else(|| format!("{option}: a number must follow, such as {option} 7"))?;
-    value.parse().map_err(|_| {
-        format!("{option}: {value} is not a number from 0 to 18446744073709551615, such as 7")
     })
 }
 

@@ -250,7 +250,7 @@ pub mod tests {
             .iter()
             .for_each(|&word| entry.rest[word] = 0xfedc_0000 + word as u64);
         entry.rest[MODE] = 1;
-        entry.rest[SATP] = 8 << 60;
+        entry.rest[SATP] = formats::csr::field::SV39;
         entry
     }
 

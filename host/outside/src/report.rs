@@ -2,14 +2,9 @@
 
 use std::collections::BTreeMap;
 use std::fmt::Display;
-use std::io::{IsTerminal, Write};
-use std::time::{Duration, Instant};
-
-/// A line of output. Where nobody reads any more (`| head`), the exit status still tells what was
-/// found.
-pub fn say(line: impl Display) {
-    let _ = writeln!(std::io::stdout(), "{line}");
-}
+use std::time::Duration;
+use terminal::progress::Progress;
+use terminal::say;
 
 /// How many differences a comparison prints in full.
 const SHOWN: u64 = 10;
@@ -19,7 +14,7 @@ pub struct Report {
     name: &'static str,
     differences: u64,
     counts: BTreeMap<String, u64>,
-    last: Instant,
+    line: Progress,
 }
 
 impl Report {
@@ -28,7 +23,7 @@ impl Report {
             name,
             differences: 0,
             counts: BTreeMap::new(),
-            last: Instant::now(),
+            line: Progress::lines(Duration::from_millis(200)),
         }
     }
 
@@ -41,8 +36,7 @@ impl Report {
     pub fn difference(&mut self, what: impl Display) {
         self.differences += 1;
         if self.differences <= SHOWN {
-            self.clear();
-            say(format!("{}: DIFFERENCE {what}", self.name));
+            self.line.aside(|| say!("{}: DIFFERENCE {what}", self.name));
         }
     }
 
@@ -51,30 +45,21 @@ impl Report {
     }
 
     /// Where it stands, on a terminal and not oftener than it can be read.
-    pub fn progress(&mut self, where_it_stands: impl Display) {
-        if self.last.elapsed() >= Duration::from_millis(200) && std::io::stderr().is_terminal() {
-            self.last = Instant::now();
-            eprint!("\r\x1b[K{}: {where_it_stands}", self.name);
-            // A progress line that cannot be written is no reason to stop.
-            let _ = std::io::stderr().flush();
-        }
-    }
-
-    fn clear(&self) {
-        if std::io::stderr().is_terminal() {
-            eprint!("\r\x1b[K");
-        }
+    pub fn progress(&self, where_it_stands: impl Display) {
+        self.line
+            .show(|| format!("{}: {where_it_stands}", self.name));
     }
 
     /// Prints the summary and what was counted; gives the number of differences.
     pub fn finish(self, summary: impl Display) -> u64 {
-        self.clear();
-        say(format!(
+        self.line.clear();
+        say!(
             "{}: {summary}; differences: {}",
-            self.name, self.differences
-        ));
+            self.name,
+            self.differences
+        );
         for (label, count) in &self.counts {
-            say(format!("{}:   {count:>7} {label}", self.name));
+            say!("{}:   {count:>7} {label}", self.name);
         }
         self.differences
     }

@@ -2,16 +2,17 @@
 //! instruction of M and of the Zb extensions, every CSR address, every Zimop word with the registers
 //! that matter, near misses (one bit away from each instruction and alias) and random words.
 
-use crate::random::Random;
+use crate::stream;
 use formats::extensions::{all, ABSENT};
+use formats::random::Random;
 use std::collections::{BTreeMap, BTreeSet};
 
 /// The address of the first word; each next one stands 4 bytes on.
-pub const BASE: u64 = 0x8000_0000;
+pub use sporhulma::BASE;
 
 /// The words of one seed, rising, each once.
 pub fn sample(seed: u64) -> Vec<u32> {
-    let random = &mut Random::new(seed, 0);
+    let random = &mut stream(seed, 0);
     let mut words = BTreeSet::new();
     for_all_functs(random, &mut words);
     with_edge_immediates(random, &mut words);
@@ -19,14 +20,14 @@ pub fn sample(seed: u64) -> Vec<u32> {
     with_every_csr(random, &mut words);
     may_be_operations(random, &mut words);
     near_misses(&mut words);
-    words.extend((0..40_000).map(|_| random.next() as u32 | 3));
+    words.extend((0..40_000).map(|_| random.word() as u32 | 3));
     words.into_iter().collect()
 }
 
 /// A register number: x0, x1 and x5 are special to aliases and to the shadow stack.
 fn register(random: &mut Random) -> u32 {
-    let anything = random.below(32);
-    random.one_of(&[0, 1, 5, anything])
+    let anything = random.below(32) as u32;
+    random.pick(&[0, 1, 5, anything])
 }
 
 fn fields(random: &mut Random, funct7: u32, funct3: u32, opcode: u32) -> u32 {
@@ -90,9 +91,9 @@ fn may_be_operations(random: &mut Random, words: &mut BTreeSet<u32>) {
     let of_two = (0..8).map(|n| 0x8200_4073 | (n >> 2) << 30 | (n & 3) << 26);
     let swaps = (0..8).map(|n| 0x4800_202f | (n >> 1) << 25 | (n & 1) << 12);
     for operation in of_one.chain(of_two).chain(swaps) {
-        for rd in [0, 1, 5, random.below(32)] {
-            for rs1 in [0, 1, 5, random.below(32)] {
-                for rs2 in [0, 1, 5, random.below(32)] {
+        for rd in [0, 1, 5, random.below(32) as u32] {
+            for rs1 in [0, 1, 5, random.below(32) as u32] {
+                for rs2 in [0, 1, 5, random.below(32) as u32] {
                     let second = if operation & 1 << 25 != 0 || operation & 0x7f == 0x2f {
                         rs2 << 20
                     } else {

@@ -1,8 +1,9 @@
 //! The CSRs: which address names which, who may touch it, what a read gives and what a write leaves.
 
-use crate::bits::*;
+use crate::csrs as address;
+use crate::csrs::field::*;
 use crate::decode::{CsrOperands, CsrOperation};
-use crate::hart::Hart;
+use crate::hart::{Hart, BELOW_EIGHT, BELOW_FOUR};
 use crate::shadow;
 use crate::trap::Trap;
 
@@ -28,26 +29,26 @@ enum Csr {
     Mseccfg,
 }
 
-fn named(address: u16) -> Option<Csr> {
-    Some(match address {
-        0x011 => Csr::Ssp,
-        0x100 => Csr::Sstatus,
-        0x105 => Csr::Stvec,
-        0x10A => Csr::Senvcfg,
-        0x140 => Csr::Sscratch,
-        0x141 => Csr::Sepc,
-        0x142 => Csr::Scause,
-        0x143 => Csr::Stval,
-        0x180 => Csr::Satp,
-        0x300 => Csr::Mstatus,
-        0x302 => Csr::Medeleg,
-        0x305 => Csr::Mtvec,
-        0x30A => Csr::Menvcfg,
-        0x340 => Csr::Mscratch,
-        0x341 => Csr::Mepc,
-        0x342 => Csr::Mcause,
-        0x343 => Csr::Mtval,
-        0x747 => Csr::Mseccfg,
+fn named(number: u16) -> Option<Csr> {
+    Some(match number {
+        address::SSP => Csr::Ssp,
+        address::SSTATUS => Csr::Sstatus,
+        address::STVEC => Csr::Stvec,
+        address::SENVCFG => Csr::Senvcfg,
+        address::SSCRATCH => Csr::Sscratch,
+        address::SEPC => Csr::Sepc,
+        address::SCAUSE => Csr::Scause,
+        address::STVAL => Csr::Stval,
+        address::SATP => Csr::Satp,
+        address::MSTATUS => Csr::Mstatus,
+        address::MEDELEG => Csr::Medeleg,
+        address::MTVEC => Csr::Mtvec,
+        address::MENVCFG => Csr::Menvcfg,
+        address::MSCRATCH => Csr::Mscratch,
+        address::MEPC => Csr::Mepc,
+        address::MCAUSE => Csr::Mcause,
+        address::MTVAL => Csr::Mtval,
+        address::MSECCFG => Csr::Mseccfg,
         _ => return None,
     })
 }
@@ -167,7 +168,7 @@ fn with_masking(old: u64, value: u64, fields: u64) -> u64 {
 /// Only MODE is kept; a MODE that is neither Bare nor Sv39 changes nothing.
 fn satp_after(old: u64, value: u64) -> u64 {
     match value >> SATP_MODE_SHIFT << SATP_MODE_SHIFT {
-        mode @ (SATP_BARE | SATP_SV39) => mode,
+        mode @ (BARE | SV39) => mode,
         _ => old,
     }
 }

@@ -2,6 +2,7 @@
 //!
 //! An instruction that traps has changed nothing; delivering the trap is the caller's part.
 
+use crate::access::{Access, Kind};
 use crate::alu::{compute, compute_word, holds};
 use crate::csr;
 use crate::decode::{decode, Instruction};
@@ -10,7 +11,7 @@ use crate::hart::Hart;
 use crate::memory::{read_extended, write, Extension, Width};
 use crate::pads;
 use crate::shadow;
-use crate::translate::{translate, Access};
+use crate::translate::translate;
 use crate::trap::{mret, sret, Trap, INSTRUCTION_MISALIGNED};
 
 /// Carries out `word` at pc. Jumps and returns set pc themselves; after all else pc moves on by 4.
@@ -78,7 +79,8 @@ fn load(
     operands: Immediate,
 ) -> Result<(), Trap> {
     let address = h.get(operands.rs1).wrapping_add(operands.immediate);
-    let at = translate(h, map, mem.len(), Access::Load, address, width)?;
+    let access = Access::new(Kind::Load, address, width);
+    let at = translate(h, map, mem.len(), access)?;
     h.set(operands.rd, read_extended(mem, at, width, extension));
     Ok(())
 }
@@ -91,7 +93,8 @@ fn store(
     operands: Sources,
 ) -> Result<(), Trap> {
     let address = h.get(operands.rs1).wrapping_add(operands.immediate);
-    let at = translate(h, map, mem.len(), Access::Store, address, width)?;
+    let access = Access::new(Kind::Store, address, width);
+    let at = translate(h, map, mem.len(), access)?;
     write(mem, at, width, h.get(operands.rs2));
     Ok(())
 }

@@ -1,10 +1,15 @@
 //! The hart: its registers, mode, ELP, ssp and CSRs, and the words in which a host hands it over.
 
-use crate::bits::{MPP, MPP_SHIFT};
+use crate::csrs::field::{MPP, MPP_SHIFT};
 
 pub const USER: u64 = 0;
 pub const SUPERVISOR: u64 = 1;
 pub const MACHINE: u64 = 3;
+
+/// The bits of pc, tvec and epc that read zero.
+pub const BELOW_FOUR: u64 = 3;
+/// The bits of ssp that read zero.
+pub const BELOW_EIGHT: u64 = 7;
 
 /// The mode and ELP are whole words, so that a refused hart goes back exactly as it came.
 #[derive(Clone, PartialEq, Eq, Debug)]

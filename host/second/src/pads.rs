@@ -1,6 +1,6 @@
 //! Landing pads: who has them on, when one is expected, and the check of the word that must be one.
 
-use crate::bits::{LPE, MLPE};
+use crate::csrs::field::{LPE, MLPE};
 use crate::decode::{decode, Instruction};
 use crate::hart::{Hart, SUPERVISOR, USER};
 use crate::trap::{Trap, LANDING_PAD_FAULT, SOFTWARE_CHECK};

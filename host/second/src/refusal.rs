@@ -1,12 +1,11 @@
 //! Refusals: when a call takes nothing, and which number it then gives.
 
-use crate::bits::*;
-use crate::hart::{Hart, MACHINE, SUPERVISOR, USER};
+use crate::csrs::field::*;
+use crate::hart::{Hart, BELOW_EIGHT, BELOW_FOUR, MACHINE, SUPERVISOR, USER};
+use crate::leaf::{ENTRIES, NUMBERS, PAGE};
 
-const PAGE_BYTES: usize = 4_096;
 const MOST_MEMORY: usize = 1_048_576;
-const MOST_MAP_WORDS: usize = 128;
-const PAGE_NUMBERS: u64 = 1 << 27;
+const MOST_MAP_WORDS: usize = 2 * ENTRIES;
 const MOST_BUDGET: u64 = 1_000_000;
 
 /// The lowest refusal that applies to a step, or 0.
@@ -45,7 +44,7 @@ fn csrs_are_possible(h: &Hart) -> bool {
     on_a_word.iter().all(|value| value & BELOW_FOUR == 0)
         && mstatus_is_possible(h.mstatus)
         && h.medeleg & !MEDELEG_FIELDS == 0
-        && matches!(h.satp, SATP_BARE | SATP_SV39)
+        && matches!(h.satp, BARE | SV39)
         && masking_is_possible(h.senvcfg, ENVCFG_FIELDS)
         && masking_is_possible(h.menvcfg, ENVCFG_FIELDS)
         && masking_is_possible(h.mseccfg, MSECCFG_FIELDS)
@@ -64,14 +63,14 @@ fn masking_is_possible(value: u64, fields: u64) -> bool {
 
 /// Whether memory has a length that every call takes.
 pub fn memory_fits(mem: &[u8]) -> bool {
-    !mem.is_empty() && mem.len() % PAGE_BYTES == 0 && mem.len() <= MOST_MEMORY
+    !mem.is_empty() && mem.len() % PAGE as usize == 0 && mem.len() <= MOST_MEMORY
 }
 
 fn map_is_well_formed(map: &[u64]) -> bool {
     let numbers = || map.iter().step_by(2);
     map.len() % 2 == 0
         && map.len() <= MOST_MAP_WORDS
-        && numbers().all(|&number| number < PAGE_NUMBERS)
+        && numbers().all(|&number| number < NUMBERS)
         && numbers()
             .zip(numbers().skip(1))
             .all(|(one, next)| one < next)

@@ -1,11 +1,12 @@
 //! The three calls: a step that fetches, a step with a given word, and a run.
 
+use crate::access::{Access, Kind};
 use crate::execute::execute;
 use crate::hart::Hart;
 use crate::memory::{read, Width};
 use crate::pads;
 use crate::refusal;
-use crate::translate::{translate, Access};
+use crate::translate::translate;
 use crate::trap::{deliver, Trap};
 
 /// What a call answers. Refusal 0: taken. Without a trap the cause is 0.
@@ -90,7 +91,8 @@ fn run_accepted(h: &mut Hart, mem: &mut [u8], map: &[u64], budget: u64) -> Answe
 }
 
 fn fetch(h: &Hart, mem: &[u8], map: &[u64]) -> Result<u32, Trap> {
-    let at = translate(h, map, mem.len(), Access::Fetch, h.pc, Width::Word)?;
+    let access = Access::new(Kind::Fetch, h.pc, Width::Word);
+    let at = translate(h, map, mem.len(), access)?;
     Ok(read(mem, at, Width::Word) as u32)
 }
 

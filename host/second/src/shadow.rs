@@ -2,14 +2,15 @@
 //!
 //! Each checks and reaches memory first and changes the hart last, so that a trap changes nothing.
 
-use crate::bits::SSE;
+use crate::access::{Access, Kind};
+use crate::csrs::field::SSE;
 use crate::fields::Registers;
 use crate::hart::{Hart, MACHINE, SUPERVISOR, USER};
 use crate::memory::{read, read_extended, write, Extension, Width};
-use crate::translate::{translate, Access};
+use crate::translate::translate;
 use crate::trap::{Trap, SHADOW_STACK_FAULT, SOFTWARE_CHECK};
 
-const SLOT: Width = Width::Double;
+pub const SLOT: Width = Width::Double;
 const SLOT_BYTES: u64 = 8;
 
 /// Whether the shadow stack is on in the current mode. U has it only while S has it too.
@@ -26,13 +27,19 @@ pub fn reachable(h: &Hart) -> bool {
     h.mode == MACHINE || enabled(h)
 }
 
+/// Where a push stores.
+pub fn below(ssp: u64) -> u64 {
+    ssp.wrapping_sub(SLOT_BYTES)
+}
+
 /// Stores a link register below ssp and then lowers ssp. Off, it is a Zimop word with rd = x0.
 pub fn push(h: &mut Hart, mem: &mut [u8], map: &[u64], link: u8) -> Result<(), Trap> {
     if !enabled(h) {
         return Ok(());
     }
-    let top = h.ssp.wrapping_sub(SLOT_BYTES);
-    let at = translate(h, map, mem.len(), Access::Push, top, SLOT)?;
+    let top = below(h.ssp);
+    let access = Access::new(Kind::Push, top, SLOT);
+    let at = translate(h, map, mem.len(), access)?;
     write(mem, at, SLOT, h.get(link));
     h.ssp = top;
     Ok(())
@@ -43,7 +50,8 @@ pub fn pop_check(h: &mut Hart, mem: &[u8], map: &[u64], link: u8) -> Result<(), 
     if !enabled(h) {
         return Ok(());
     }
-    let at = translate(h, map, mem.len(), Access::Pop, h.ssp, SLOT)?;
+    let access = Access::new(Kind::Pop, h.ssp, SLOT);
+    let at = translate(h, map, mem.len(), access)?;
     if read(mem, at, SLOT) != h.get(link) {
         return Err(Trap {
             cause: SOFTWARE_CHECK,
@@ -72,8 +80,8 @@ pub fn swap(
     if !reachable(h) {
         return Err(Trap::illegal(word));
     }
-    let address = h.get(operands.rs1);
-    let at = translate(h, map, mem.len(), Access::Swap, address, width)?;
+    let access = Access::new(Kind::Swap, h.get(operands.rs1), width);
+    let at = translate(h, map, mem.len(), access)?;
     let old = read_extended(mem, at, width, Extension::Sign);
     write(mem, at, width, h.get(operands.rs2));
     h.set(operands.rd, old);

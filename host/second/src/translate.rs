@@ -1,138 +1,110 @@
 //! From address to byte: rules 7.1 to 7.9 of docs/HART.md, in their order. Step 5 here is rule 7.5.
 //!
 //! The result is the place in memory of the first byte of the access, or the trap. The trap's tval is
-//! the transformed address; a fetch is not transformed, so there it is the plain one.
+//! the transformed address; a fetch is not transformed, so there it is the plain one. `path` gives what an access
+//! meets on its way, for those who explain or count it.
 
-use crate::bits::*;
+use crate::access::{Access, Kind, Reason};
+use crate::csrs::field::*;
 use crate::hart::{Hart, MACHINE, SUPERVISOR, USER};
-use crate::memory::{Width, MEMORY_START};
-use crate::trap::*;
+use crate::leaf::{A, D, FRAME, FRAME_SHIFT, NUMBERS, PAGE, R, RESERVED, U, V, W, X};
+use crate::memory::MEMORY_START;
+use crate::trap::Trap;
 
-/// The bits of a map entry, which is laid out as an Sv39 leaf.
-const V: u64 = 1 << 0;
-const R: u64 = 1 << 1;
-const W: u64 = 1 << 2;
-const X: u64 = 1 << 3;
-const U: u64 = 1 << 4;
-const A: u64 = 1 << 6;
-const D: u64 = 1 << 7;
-const FRAME_SHIFT: u32 = 10;
-const FRAME_MASK: u64 = (1 << 44) - 1;
-const ABOVE_FRAME: u32 = 54;
-
-const PAGE_SHIFT: u32 = 12;
-const OFFSET_MASK: u64 = (1 << PAGE_SHIFT) - 1;
-const PAGE_NUMBER_MASK: u64 = (1 << 27) - 1;
 /// An Sv39 address has 39 bits; this many bits above them only repeat bit 38.
 const SV39_SPARE_BITS: u32 = 25;
-
-#[derive(Clone, Copy, PartialEq, Eq, Debug)]
-pub enum Access {
-    Fetch,
-    Load,
-    Store,
-    Push,
-    Pop,
-    Swap,
-}
-
-impl Access {
-    fn is_shadow(self) -> bool {
-        matches!(self, Access::Push | Access::Pop | Access::Swap)
-    }
-
-    fn writes(self) -> bool {
-        matches!(self, Access::Store | Access::Push | Access::Swap)
-    }
-
-    /// MPRV moves these into the mode of MPP. A push or pop in M never gets here.
-    fn heeds_mprv(self) -> bool {
-        matches!(self, Access::Load | Access::Store | Access::Swap)
-    }
-
-    fn misaligned(self) -> u64 {
-        match self {
-            Access::Fetch => INSTRUCTION_MISALIGNED,
-            Access::Load => LOAD_MISALIGNED,
-            Access::Store => STORE_MISALIGNED,
-            Access::Push | Access::Pop | Access::Swap => STORE_ACCESS_FAULT,
-        }
-    }
-
-    fn access_fault(self) -> u64 {
-        match self {
-            Access::Fetch => FETCH_ACCESS_FAULT,
-            Access::Load => LOAD_ACCESS_FAULT,
-            _ => STORE_ACCESS_FAULT,
-        }
-    }
-
-    fn page_fault(self) -> u64 {
-        match self {
-            Access::Fetch => FETCH_PAGE_FAULT,
-            Access::Load => LOAD_PAGE_FAULT,
-            _ => STORE_PAGE_FAULT,
-        }
-    }
-}
 
 /// All nine steps. `size` is the length of memory in bytes.
 ///
 /// Always inlined: each caller's kind of access is fixed, so most questions fall away there.
 #[inline(always)]
-pub fn translate(
-    h: &Hart,
-    map: &[u64],
-    size: usize,
-    access: Access,
-    address: u64,
-    width: Width,
-) -> Result<usize, Trap> {
-    let mode = effective_mode(h, access);
-    let paged = mode != MACHINE && h.satp == SATP_SV39;
-    let address = match access {
-        Access::Fetch => address,
-        _ => ignore_upper(address, masked_bits(h, access, mode), paged),
-    };
-    let trap = |cause| Trap {
-        cause,
-        tval: address,
-    };
-    if address % width.bytes() != 0 {
-        return Err(trap(access.misaligned()));
-    }
-    if access.is_shadow() && !paged {
-        return Err(trap(access.access_fault()));
-    }
-    let physical = if paged {
-        sv39(h, map, mode, access, address).map_err(trap)?
-    } else {
-        address
-    };
-    place(physical, size).ok_or(trap(access.access_fault()))
+pub(crate) fn translate(h: &Hart, map: &[u64], size: usize, access: Access) -> Result<usize, Trap> {
+    let regime = Regime::of(h, access.kind);
+    let address = regime.transformed(access.address);
+    physical(h, map, &regime, access, address)
+        .and_then(|physical| place(physical, size))
+        .map_err(|reason| Trap {
+            cause: reason.cause(access.kind),
+            tval: address,
+        })
 }
 
-/// Step 1: whether MPRV decides the mode of this access. It counts in M alone.
-fn under_mprv(h: &Hart, access: Access) -> bool {
-    h.mode == MACHINE && h.mstatus & MPRV != 0 && access.heeds_mprv()
+/// What an access meets on its way.
+#[derive(Clone, Copy, PartialEq, Eq, Debug)]
+pub struct Path {
+    pub regime: Regime,
+    /// The address after step 2.
+    pub transformed: u64,
+    /// The page that the map is asked for; none without Sv39, or where the address is none of Sv39's.
+    pub page: Option<u64>,
+    /// Where steps 3 to 8 lead, or which of them refuses.
+    pub physical: Result<u64, Reason>,
+    /// The place in memory, or which of steps 3 to 9 refuses.
+    pub place: Result<usize, Reason>,
 }
 
-/// Step 1.
-fn effective_mode(h: &Hart, access: Access) -> u64 {
-    if under_mprv(h, access) {
-        h.mpp()
-    } else {
-        h.mode
+/// The same nine steps, and what they met.
+pub fn path(h: &Hart, map: &[u64], size: usize, access: Access) -> Path {
+    let regime = Regime::of(h, access.kind);
+    let transformed = regime.transformed(access.address);
+    let physical = physical(h, map, &regime, access, transformed);
+    Path {
+        regime,
+        transformed,
+        page: page_number(transformed).filter(|_| regime.paged),
+        physical,
+        place: physical.and_then(|physical| place(physical, size)),
     }
 }
 
-/// Step 2: how many upper bits are masked in this mode. docs/HART.md, 7.2 e (Pointer Masking 1.0.0-rc1, section 2.6):
-/// none where MPRV decides while MXR is set too, so that M can read with the rights of a fetch, which is not masked
-/// either; whatever mode MPP names, and also where it names M.
-fn masked_bits(h: &Hart, access: Access, mode: u64) -> u32 {
-    if under_mprv(h, access) && h.mstatus & MXR != 0 {
-        return 0;
+/// Steps 1 and 2: whose rights an access has, and what masking makes of its address.
+#[derive(Clone, Copy, PartialEq, Eq, Debug)]
+pub struct Regime {
+    /// The effective mode.
+    pub mode: u64,
+    /// Whether Sv39 is in force.
+    pub paged: bool,
+    /// How many upper bits the mode's PMM masks.
+    pub bits: u32,
+    /// Whether nothing is masked all the same.
+    pub spared: bool,
+}
+
+impl Regime {
+    #[inline(always)]
+    pub fn of(h: &Hart, kind: Kind) -> Regime {
+        let under_mprv = h.mode == MACHINE && h.mstatus & MPRV != 0 && kind.heeds_mprv();
+        let mode = if under_mprv { h.mpp() } else { h.mode };
+        Regime {
+            mode,
+            paged: mode != MACHINE && h.satp == SV39,
+            bits: masked_bits(h, mode),
+            // docs/HART.md, 7.2 e (Pointer Masking 1.0.0-rc1, section 2.6): where MPRV decides while MXR is set too, so
+            // that M can read with the rights of a fetch, which is not masked either; whatever mode MPP names, and also
+            // where it names M.
+            spared: kind == Kind::Fetch || under_mprv && h.mstatus & MXR != 0,
+        }
     }
+
+    /// The address as the steps from 3 on see it.
+    #[inline(always)]
+    pub fn transformed(&self, address: u64) -> u64 {
+        if self.spared {
+            address
+        } else {
+            self.masked(address)
+        }
+    }
+
+    /// What PMM makes of an address, were it not spared.
+    #[inline(always)]
+    pub fn masked(&self, address: u64) -> u64 {
+        ignore_upper(address, self.bits, self.paged)
+    }
+}
+
+/// Step 2: how many upper bits are masked in this mode.
+fn masked_bits(h: &Hart, mode: u64) -> u32 {
     let setting = match mode {
         USER => h.senvcfg,
         SUPERVISOR => h.menvcfg,
@@ -155,22 +127,51 @@ fn ignore_upper(address: u64, bits: u32, is_virtual: bool) -> u64 {
     }
 }
 
-/// Steps 5 to 8: the physical address, or the cause.
-fn sv39(h: &Hart, map: &[u64], mode: u64, access: Access, address: u64) -> Result<u64, u64> {
-    if ignore_upper(address, SV39_SPARE_BITS, true) != address {
-        return Err(access.page_fault());
+/// Steps 3 to 8: the physical address of the transformed one.
+#[inline(always)]
+fn physical(
+    h: &Hart,
+    map: &[u64],
+    regime: &Regime,
+    access: Access,
+    address: u64,
+) -> Result<u64, Reason> {
+    if address % access.width != 0 {
+        return Err(Reason::Misaligned);
     }
-    let page = address >> PAGE_SHIFT & PAGE_NUMBER_MASK;
-    let entry = find(map, page).ok_or(access.page_fault())?;
-    if !is_leaf(h, entry) || !user_bit_allows(h, mode, access, entry) {
-        return Err(access.page_fault());
+    if access.kind.is_shadow() && !regime.paged {
+        return Err(match regime.mode {
+            MACHINE => Reason::ShadowInMachine,
+            _ => Reason::ShadowInBare,
+        });
     }
-    shadow_page_allows(access, entry)?;
-    if !permission_allows(h, access, entry) {
-        return Err(access.page_fault());
+    if regime.paged {
+        sv39(h, map, regime.mode, access.kind, address)
+    } else {
+        Ok(address)
     }
-    let frame = entry >> FRAME_SHIFT & FRAME_MASK;
-    Ok(frame << PAGE_SHIFT | address & OFFSET_MASK)
+}
+
+/// Steps 5 to 8, under Sv39.
+fn sv39(h: &Hart, map: &[u64], mode: u64, kind: Kind, address: u64) -> Result<u64, Reason> {
+    let page = page_number(address).ok_or(Reason::NotCanonical)?;
+    let entry = find(map, page).ok_or(Reason::NoEntry)?;
+    accepted(entry, h.menvcfg)?;
+    user_bit(h, mode, kind, entry)?;
+    shadow_page(kind, entry)?;
+    permission(h, kind, entry)?;
+    Ok(frame(entry) + address % PAGE)
+}
+
+/// Step 5: the number of an address's page, if it is one of Sv39's.
+fn page_number(address: u64) -> Option<u64> {
+    let canonical = ignore_upper(address, SV39_SPARE_BITS, true) == address;
+    canonical.then_some(address / PAGE % NUMBERS)
+}
+
+/// The entry of an address's page, if it is one of Sv39's and the map has it.
+pub fn entry(map: &[u64], address: u64) -> Option<u64> {
+    find(map, page_number(address)?)
 }
 
 /// Step 5: the entry of this page. The page numbers of the map strictly rise.
@@ -187,21 +188,26 @@ fn find(map: &[u64], page: u64) -> Option<u64> {
 }
 
 /// Step 5: whether the entry can be used at all.
-fn is_leaf(h: &Hart, entry: u64) -> bool {
-    let reserved = match entry & (R | W | X) {
-        0 => true,
-        W => h.menvcfg & SSE == 0,
-        rights => rights & W != 0 && rights & R == 0,
+pub fn accepted(entry: u64, menvcfg: u64) -> Result<(), Reason> {
+    let reason = match entry & (R | W | X) {
+        _ if entry & V == 0 => Reason::NotValid,
+        0 => Reason::NoRights,
+        _ if entry & RESERVED != 0 => Reason::ReservedBits,
+        W if menvcfg & SSE == 0 => Reason::WriteAlone,
+        rights if rights == W | X => Reason::WriteWithoutRead,
+        _ => return Ok(()),
     };
-    entry & V != 0 && entry >> ABOVE_FRAME == 0 && !reserved
+    Err(reason)
 }
 
 /// Step 6.
-fn user_bit_allows(h: &Hart, mode: u64, access: Access, entry: u64) -> bool {
-    if entry & U == 0 {
-        mode != USER
-    } else {
-        mode == USER || access != Access::Fetch && h.mstatus & SUM != 0
+fn user_bit(h: &Hart, mode: u64, kind: Kind, entry: u64) -> Result<(), Reason> {
+    match (entry & U != 0, mode) {
+        (false, USER) => Err(Reason::NotOfUser),
+        (false, _) | (true, USER) => Ok(()),
+        (true, _) if kind == Kind::Fetch => Err(Reason::FetchOfUser),
+        (true, _) if h.mstatus & SUM == 0 => Err(Reason::DataOfUser),
+        (true, _) => Ok(()),
     }
 }
 
@@ -211,37 +217,41 @@ fn is_shadow_page(entry: u64) -> bool {
 }
 
 /// Step 7: shadow accesses want a shadow page; stores and fetches want another.
-fn shadow_page_allows(access: Access, entry: u64) -> Result<(), u64> {
-    let shadow_page = is_shadow_page(entry);
-    match access {
-        Access::Push | Access::Pop | Access::Swap if !shadow_page => {
-            if entry & (R | W | X) == R {
-                Err(access.page_fault())
-            } else {
-                Err(access.access_fault())
-            }
+fn shadow_page(kind: Kind, entry: u64) -> Result<(), Reason> {
+    match (kind, is_shadow_page(entry)) {
+        (Kind::Push | Kind::Pop | Kind::Swap, false) if entry & (R | W | X) == R => {
+            Err(Reason::ShadowToReadOnly)
         }
-        Access::Store | Access::Fetch if shadow_page => Err(access.access_fault()),
+        (Kind::Push | Kind::Pop | Kind::Swap, false) => Err(Reason::ShadowToOther),
+        (Kind::Store, true) => Err(Reason::StoreToShadow),
+        (Kind::Fetch, true) => Err(Reason::FetchFromShadow),
         _ => Ok(()),
     }
 }
 
 /// Step 8. A shadow access has its shadow page by step 7, and needs only A and D.
-fn permission_allows(h: &Hart, access: Access, entry: u64) -> bool {
+fn permission(h: &Hart, kind: Kind, entry: u64) -> Result<(), Reason> {
     let executable = entry & X != 0;
-    let allowed = match access {
-        Access::Fetch => executable,
-        Access::Load => {
-            entry & R != 0 || executable && h.mstatus & MXR != 0 || is_shadow_page(entry)
-        }
-        Access::Store => entry & W != 0,
-        Access::Push | Access::Pop | Access::Swap => true,
-    };
-    allowed && entry & A != 0 && (!access.writes() || entry & D != 0)
+    let readable = || entry & R != 0 || executable && h.mstatus & MXR != 0 || is_shadow_page(entry);
+    match kind {
+        Kind::Fetch if !executable => Err(Reason::NotExecutable),
+        Kind::Load if !readable() => Err(Reason::NotReadable),
+        Kind::Store if entry & W == 0 => Err(Reason::NotWritable),
+        _ if entry & A == 0 => Err(Reason::NotAccessed),
+        _ if kind.writes() && entry & D == 0 => Err(Reason::NotDirty),
+        _ => Ok(()),
+    }
+}
+
+/// Step 9: the physical address of the first byte of the entry's frame.
+fn frame(entry: u64) -> u64 {
+    ((entry & FRAME) >> FRAME_SHIFT) * PAGE
 }
 
 /// Step 9. The access is aligned and memory is whole pages, so its first byte speaks for all.
-fn place(physical: u64, size: usize) -> Option<usize> {
-    let at = usize::try_from(physical.checked_sub(MEMORY_START)?).ok()?;
-    (at < size).then_some(at)
+fn place(physical: u64, size: usize) -> Result<usize, Reason> {
+    let at = physical.checked_sub(MEMORY_START);
+    at.and_then(|at| usize::try_from(at).ok())
+        .filter(|at| *at < size)
+        .ok_or(Reason::Outside)
 }

@@ -1,6 +1,6 @@
 //! Traps and the returns from them: where a trap goes, what it saves, and what MRET and SRET restore.
 
-use crate::bits::*;
+use crate::csrs::field::*;
 use crate::hart::{Hart, MACHINE, SUPERVISOR, USER};
 use crate::pads;
 

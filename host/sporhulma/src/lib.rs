@@ -44,6 +44,62 @@ pub mod number {
     pub const SECOND: usize = 7;
 }
 
+/// The families of instructions, as `family` numbers them.
+pub mod family {
+    pub const ILLEGAL: u64 = 0;
+    pub const LUI: u64 = 1;
+    pub const AUIPC: u64 = 2;
+    pub const JAL: u64 = 3;
+    pub const JALR: u64 = 4;
+    pub const BRANCH: u64 = 5;
+    pub const LOAD: u64 = 6;
+    pub const STORE: u64 = 7;
+    pub const OP_IMM: u64 = 8;
+    pub const OP_IMM_32: u64 = 9;
+    pub const OP: u64 = 10;
+    pub const OP_32: u64 = 11;
+    pub const FENCE: u64 = 12;
+    pub const ECALL: u64 = 13;
+    pub const EBREAK: u64 = 14;
+    pub const SRET: u64 = 15;
+    pub const MRET: u64 = 16;
+    pub const CSR: u64 = 17;
+    pub const READ_SSP: u64 = 18;
+    pub const PUSH: u64 = 19;
+    pub const POP: u64 = 20;
+    pub const SWAP: u64 = 21;
+    pub const MOP_R: u64 = 22;
+    pub const MOP_RR: u64 = 23;
+}
+
+/// The names of the families, in order.
+pub const FAMILIES: [&str; 24] = [
+    "illegal",
+    "LUI",
+    "AUIPC",
+    "JAL",
+    "JALR",
+    "branch",
+    "load",
+    "store",
+    "OP-IMM",
+    "OP-IMM-32",
+    "OP",
+    "OP-32",
+    "FENCE",
+    "ECALL",
+    "EBREAK",
+    "SRET",
+    "MRET",
+    "CSR",
+    "SSRDP",
+    "push",
+    "pop-check",
+    "swap",
+    "MOP.R",
+    "MOP.RR",
+];
+
 /// The physical address of memory's first byte.
 pub const BASE: u64 = 0x8000_0000;
 
@@ -82,17 +138,6 @@ pub struct Answer {
     pub cause: u64,
 }
 
-impl Answer {
-    fn of(refusal: u64, words: [u64; 3]) -> Answer {
-        Answer {
-            refusal,
-            count: words[0],
-            trapped: words[1] != 0,
-            cause: words[2],
-        }
-    }
-}
-
 // Arrays go by pointer, slices as a pointer and a length.
 #[rustfmt::skip]
 extern "C" {
@@ -105,60 +150,55 @@ extern "C" {
     fn sporhulma_write(instruction: *const u64, word: *mut u32) -> u64;
 }
 
-/// One step, which fetches at pc.
-pub fn step(h: &mut Hart, mem: &mut [u8], map: &[u64]) -> Answer {
+/// Which of the three calls, with its own argument.
+#[derive(Clone, Copy, PartialEq, Eq, Debug)]
+pub enum Call {
+    /// One step, which fetches at pc.
+    Step,
+    /// One step with a given word, as if it had been fetched at pc.
+    StepWord(u32),
+    /// Steps up to and including the first that traps, or until the budget, at most [`MOST_STEPS`], is spent.
+    Run(u64),
+}
+
+/// Makes one of the three calls.
+#[inline]
+pub fn call(call: Call, h: &mut Hart, mem: &mut [u8], map: &[u64]) -> Answer {
     let mut answer = [0; 3];
+    let (x, rest, told) = (h.x.as_mut_ptr(), h.rest.as_mut_ptr(), answer.as_mut_ptr());
+    let (mem, mem_len) = (mem.as_mut_ptr(), mem.len());
+    let (map, map_len) = (map.as_ptr(), map.len());
     // SAFETY: each pointer is a reference's or a slice's own, with its length; they do not overlap, since each is borrowed apart.
     let refusal = unsafe {
-        sporhulma_step(
-            h.x.as_mut_ptr(),
-            h.rest.as_mut_ptr(),
-            mem.as_mut_ptr(),
-            mem.len(),
-            map.as_ptr(),
-            map.len(),
-            answer.as_mut_ptr(),
-        )
+        match call {
+            Call::Step => sporhulma_step(x, rest, mem, mem_len, map, map_len, told),
+            Call::StepWord(word) => {
+                sporhulma_step_word(x, rest, mem, mem_len, map, map_len, word, told)
+            }
+            Call::Run(budget) => sporhulma_run(x, rest, mem, mem_len, map, map_len, budget, told),
+        }
     };
-    Answer::of(refusal, answer)
+    Answer {
+        refusal,
+        count: answer[0],
+        trapped: answer[1] != 0,
+        cause: answer[2],
+    }
 }
 
-/// One step with a given word, as if it had been fetched at pc.
+/// [`Call::Step`].
+pub fn step(h: &mut Hart, mem: &mut [u8], map: &[u64]) -> Answer {
+    call(Call::Step, h, mem, map)
+}
+
+/// [`Call::StepWord`].
 pub fn step_word(h: &mut Hart, mem: &mut [u8], map: &[u64], word: u32) -> Answer {
-    let mut answer = [0; 3];
-    // SAFETY: as in `step`.
-    let refusal = unsafe {
-        sporhulma_step_word(
-            h.x.as_mut_ptr(),
-            h.rest.as_mut_ptr(),
-            mem.as_mut_ptr(),
-            mem.len(),
-            map.as_ptr(),
-            map.len(),
-            word,
-            answer.as_mut_ptr(),
-        )
-    };
-    Answer::of(refusal, answer)
+    call(Call::StepWord(word), h, mem, map)
 }
 
-/// Steps up to and including the first that traps, or until the budget, at most [`MOST_STEPS`], is spent.
+/// [`Call::Run`].
 pub fn run(h: &mut Hart, mem: &mut [u8], map: &[u64], budget: u64) -> Answer {
-    let mut answer = [0; 3];
-    // SAFETY: as in `step`.
-    let refusal = unsafe {
-        sporhulma_run(
-            h.x.as_mut_ptr(),
-            h.rest.as_mut_ptr(),
-            mem.as_mut_ptr(),
-            mem.len(),
-            map.as_ptr(),
-            map.len(),
-            budget,
-            answer.as_mut_ptr(),
-        )
-    };
-    Answer::of(refusal, answer)
+    call(Call::Run(budget), h, mem, map)
 }
 
 /// What a load answers. Where `refusal` is not 0, nothing was changed and there is no start address.
@@ -174,7 +214,7 @@ pub struct Loaded {
 /// Loads a text of Intel HEX into memory, whose first byte is [`BASE`].
 pub fn load_hex(memory: &mut [u8], text: &[u8]) -> Loaded {
     let mut answer = [0; 3];
-    // SAFETY: as in `step`.
+    // SAFETY: as in `call`.
     let refusal = unsafe {
         sporhulma_load_hex(
             memory.as_mut_ptr(),
@@ -191,7 +231,7 @@ pub fn load_hex(memory: &mut [u8], text: &[u8]) -> Loaded {
     }
 }
 
-/// The decoder's verdict: 0 for a word that is no instruction of the hart, else its family (include/sporhulma.h lists them).
+/// The decoder's verdict: [`family::ILLEGAL`] for a word that is no instruction of the hart, else its family.
 pub fn family(word: u32) -> u64 {
     // SAFETY: it takes a number and gives one.
     unsafe { sporhulma_family(word) }
@@ -199,12 +239,12 @@ pub fn family(word: u32) -> u64 {
 
 /// Reads a word: 0 and its instruction's numbers, or refusal 5 and eight zeros.
 pub fn read(word: u32, instruction: &mut [u64; 8]) -> u64 {
-    // SAFETY: as in `step`.
+    // SAFETY: as in `call`.
     unsafe { sporhulma_read(word, instruction.as_mut_ptr()) }
 }
 
 /// Writes an instruction: 0 and its word; or refusal 5 where no word reads as these numbers, and the word as it was.
 pub fn write(instruction: &[u64; 8], word: &mut u32) -> u64 {
-    // SAFETY: as in `step`.
+    // SAFETY: as in `call`.
     unsafe { sporhulma_write(instruction.as_ptr(), word) }
 }

@@ -1,6 +1,7 @@
 //! The table of include/sporhulma.h that says which eight numbers can be written, held against the proved writer: each of its rows
 //! at both ends of every column, and every family and operation that it does not have.
 
+use formats::number::unsigned;
 use sporhulma::number::{FAMILY, FIRST, IMMEDIATE, OPERATION, RD, RS1, RS2, SECOND};
 use sporhulma::{family, read, write};
 use std::ops::RangeInclusive;
@@ -57,11 +58,7 @@ impl Row {
 }
 
 fn number(text: &str) -> u64 {
-    let parsed = match text.strip_prefix("0x") {
-        Some(digits) => u64::from_str_radix(digits, 16),
-        None => text.parse(),
-    };
-    parsed.unwrap_or_else(|_| panic!("'{text}' is no number"))
+    unsigned(text).unwrap_or_else(|_| panic!("'{text}' is no number"))
 }
 
 /// `0 BEQ, 1 BNE`, or `n, 0 to 31`, or `0`.

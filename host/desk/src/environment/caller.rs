@@ -2,9 +2,10 @@
 
 use super::semihosting;
 use crate::map::{PageMap, PAGE};
-use crate::names::{M, S};
+use crate::names::{M, S, U};
 use crate::place::{follow, Access, Kind};
 use crate::state::State;
+use formats::csr::field::{MPP_SHIFT, SPP};
 use sporhulma::{word, Hart, BASE};
 
 /// Bytes that the environment wrote, and at which index of memory.
@@ -29,8 +30,11 @@ impl<'a> Caller<'a> {
         let mut hart = state.hart;
         let mstatus = hart.rest[word::MSTATUS];
         (hart.rest[word::MODE], hart.rest[word::PC]) = match state.mode() {
-            M => (mstatus >> 11 & 3, hart.rest[word::MEPC]),
-            _ => (mstatus >> 8 & S, hart.rest[word::SEPC]),
+            M => (mstatus >> MPP_SHIFT & 3, hart.rest[word::MEPC]),
+            _ => (
+                if mstatus & SPP == 0 { U } else { S },
+                hart.rest[word::SEPC],
+            ),
         };
         Caller {
             state,

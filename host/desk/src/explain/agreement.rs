@@ -5,7 +5,11 @@ use super::{expected, Trap};
 use crate::map::{Entry, PageMap};
 use crate::state::State;
 use crate::symbols::Symbols;
+use formats::csr::field::{
+    LPE, MEDELEG_FIELDS, MLPE, MPP_SHIFT, MPRV, MXR, PMM_SHIFT, SSE, SUM, SV39,
+};
 use formats::extensions::{drawn, ABSENT};
+pub use formats::random::Random;
 use sporhulma::{word, Hart};
 use std::collections::BTreeSet;
 
@@ -14,64 +18,42 @@ use std::collections::BTreeSet;
 const MEMORIES: usize = 500;
 const HARTS: usize = 100;
 
-/// Marsaglia's xorshift: the same numbers in every run.
-pub struct Random(pub u64);
-
-impl Random {
-    pub fn next(&mut self) -> u64 {
-        self.0 ^= self.0 << 13;
-        self.0 ^= self.0 >> 7;
-        self.0 ^= self.0 << 17;
-        self.0
-    }
-
-    fn below(&mut self, limit: u64) -> u64 {
-        (self.next() >> 11) % limit
-    }
-
-    pub fn pick<T: Copy>(&mut self, from: &[T]) -> T {
-        from[self.below(from.len() as u64) as usize]
-    }
-
-    /// Each bit of the mask, or not.
-    fn bits(&mut self, mask: u64) -> u64 {
-        self.next() & mask
-    }
-
-    /// An address that is in memory or in a page, or just beside, now and then with upper bits set.
-    fn address(&mut self) -> u64 {
-        let base = self.pick(&[
-            0x8000_0000,
-            0x1000,
-            0x2000,
-            0x3000,
-            0xffff_ffff_ffff_f000,
-            0x40_0000_0000,
-        ]);
-        let offset = self.pick(&[0, 8, 0x10, 0xff8, 0xffc, 0x1000, 0x2000, 1, 2, 4]);
-        let tag = self.pick(&[0, 0, 0, 0xab00_0000_0000_0000, 0xffff_0000_0000_0000]);
-        u64::wrapping_add(base, offset) ^ tag
-    }
+/// An address that is in memory or in a page, or just beside, now and then with upper bits set.
+fn address(random: &mut Random) -> u64 {
+    let base = random.pick(&[
+        0x8000_0000,
+        0x1000,
+        0x2000,
+        0x3000,
+        0xffff_ffff_ffff_f000,
+        0x40_0000_0000,
+    ]);
+    let offset = random.pick(&[0, 8, 0x10, 0xff8, 0xffc, 0x1000, 0x2000, 1, 2, 4]);
+    let tag = random.pick(&[0, 0, 0, 0xab00_0000_0000_0000, 0xffff_0000_0000_0000]);
+    u64::wrapping_add(base, offset) ^ tag
 }
 
 pub fn hart(random: &mut Random) -> Hart {
     let mut hart = Hart::fresh();
     for n in 1..32 {
-        hart.x[n] = random.address();
+        hart.x[n] = address(random);
     }
-    let (code, stack) = (random.address() & !3, random.address() & !7);
+    let (code, stack) = (address(random) & !3, address(random) & !7);
     let rest = &mut hart.rest;
     rest[word::PC] = random.pick(&[0x1000, 0x1000, 0x1004, 0x1010, 0x8000_0010, code]);
     rest[word::MODE] = random.pick(&[0, 0, 1, 3]);
     rest[word::ELP] = random.pick(&[0, 0, 0, 1]);
     rest[word::SSP] = random.pick(&[0x2000, 0x2ff8, 0x3000, stack]);
-    rest[word::SATP] = random.pick(&[0, 8 << 60, 8 << 60, 8 << 60]);
-    rest[word::MSTATUS] |= random.bits(7 << 17) | random.pick(&[0, 1, 3]) << 11;
-    rest[word::MEDELEG] = random.bits(0x4B3FF);
+    rest[word::SATP] = random.pick(&[0, SV39, SV39, SV39]);
+    rest[word::MSTATUS] |=
+        random.word() & (MPRV | SUM | MXR) | random.pick(&[0, 1, 3]) << MPP_SHIFT;
+    rest[word::MEDELEG] = random.word() & MEDELEG_FIELDS;
     for csr in [word::MENVCFG, word::SENVCFG] {
-        rest[csr] = random.bits(4) | random.pick(&[0, 8, 8, 8]) | random.pick(&[0, 2, 3]) << 32;
+        rest[csr] = random.word() & LPE
+            | random.pick(&[0, SSE, SSE, SSE])
+            | random.pick(&[0, 2, 3]) << PMM_SHIFT;
     }
-    rest[word::MSECCFG] = random.bits(1 << 10) | random.pick(&[0, 2, 3]) << 32;
+    rest[word::MSECCFG] = random.word() & MLPE | random.pick(&[0, 2, 3]) << PMM_SHIFT;
     hart
 }
 
@@ -92,7 +74,7 @@ pub fn map(random: &mut Random) -> PageMap {
 
 /// A word: mostly one that can trap, with random registers.
 pub fn instruction(random: &mut Random) -> u32 {
-    let free = random.next() as u32;
+    let free = random.word() as u32;
     let opcode = random.pick(&[
         0x03, 0x23, 0x63, 0x67, 0x6f, 0x73, 0x2f, 0x17, 0x13, 0x33, 0x7f, 0x0f,
     ]);
@@ -114,7 +96,7 @@ pub fn instruction(random: &mut Random) -> u32 {
         4 => free & 0x00ff_ff80 | random.pick(&[0x03, 0x23]),
         5 => random.pick(&[0x0000_0017, 0x8000_0017, 0x0000_1017, 0x0000_2017]), // lpad
         6 => free,
-        7 => drawn(random.next()).with(free),
+        7 => drawn(random.word()).with(free),
         8 => random.pick(&ABSENT).with(free),
         _ => free & !0x7f | opcode,
     }
@@ -165,7 +147,7 @@ fn compare(before: &State, map: &PageMap, case: usize, seen: &mut Seen) {
 
 #[test]
 fn every_trap_is_explained_as_the_hart_gives_it() {
-    let mut random = Random(0x5eed_0007);
+    let mut random = Random::new(0x5eed_0007);
     let mut seen = Seen::default();
     for memory in 0..MEMORIES {
         let words = (0..0x2000 / 4).map(|_| instruction(&mut random));

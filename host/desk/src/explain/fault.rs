@@ -3,7 +3,7 @@
 use super::{Rows, Verdict};
 use crate::facts::hex;
 use crate::names::{mode_name, M};
-use crate::place::Path;
+use crate::place::{name, Path};
 use crate::symbols::Symbols;
 use serde_json::Value;
 
@@ -20,7 +20,7 @@ pub fn verdict(path: &Path, symbols: &Symbols) -> Option<Verdict> {
     let facts = vec![
         ("rule", Value::from(refused.rule)),
         ("reason", Value::from(refused.why.as_str())),
-        ("access", Value::from(path.access.kind.name())),
+        ("access", Value::from(name(path.access.kind))),
         ("width", Value::from(path.access.width)),
         ("address", hex(path.access.address)),
         ("transformed", hex(path.transformed)),
@@ -43,13 +43,13 @@ pub fn verdict(path: &Path, symbols: &Symbols) -> Option<Verdict> {
 /// The access as computed, as whom, and that it was not masked where that made a difference.
 fn rows(path: &Path, symbols: &Symbols) -> Rows {
     let access = &path.access;
-    let name = access.kind.name();
+    let kind = name(access.kind);
     let met = symbols.shown(path.transformed, path.space());
     let at = match path.transformed == access.address {
         true => met,
         false => format!("{:#x}, after masking {met}", access.address),
     };
-    let text = format!("{name} of {} bytes at {at}", access.width);
+    let text = format!("{kind} of {} bytes at {at}", access.width);
     let regime = match (path.sv39, path.mode) {
         (true, _) => "under Sv39",
         (false, M) => "where addresses are physical",

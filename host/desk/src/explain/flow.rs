@@ -1,33 +1,24 @@
 //! Traps of control flow: landing pads, jump targets, ECALL and EBREAK.
 
 use super::{family, Verdict};
-use crate::bits::{LPE, MLPE, SSE};
 use crate::facts::hex;
 use crate::names::{mode_name, M, S, U};
+use crate::place::by_the_rules;
 use crate::state::State;
 use crate::symbols::Symbols;
 use disasm::Word;
+use formats::csr::field::SSE;
 use serde_json::Value;
 use sporhulma::{word, Hart};
 
 /// The active shadow enable of the current mode.
 pub fn shadow_stack_on(hart: &Hart) -> bool {
-    let menvcfg = hart.rest[word::MENVCFG] & SSE != 0;
-    match hart.rest[word::MODE] {
-        U => menvcfg && hart.rest[word::SENVCFG] & SSE != 0,
-        S => menvcfg,
-        _ => false,
-    }
+    second::shadow_stack_on(&by_the_rules(hart))
 }
 
 /// Whether landing pads are on in the current mode.
 pub fn pads_on(hart: &Hart) -> bool {
-    let enable = match hart.rest[word::MODE] {
-        U => hart.rest[word::SENVCFG] & LPE,
-        S => hart.rest[word::MENVCFG] & LPE,
-        _ => hart.rest[word::MSECCFG] & MLPE,
-    };
-    enable != 0
+    second::pads_on(&by_the_rules(hart))
 }
 
 /// The trap where a landing pad is expected and another word stands.

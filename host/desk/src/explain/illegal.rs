@@ -4,12 +4,10 @@ use super::foreign::foreign;
 use super::{csrs, family, flow, Verdict};
 use crate::names::{mode_name, M, U};
 use disasm::Word;
+use formats::csr::SSP;
 use formats::extensions::absent;
 use serde_json::Value;
 use sporhulma::{word, Hart};
-
-/// The address of the CSR ssp, which has a rule of its own.
-const SSP: u16 = 0x011;
 
 pub fn verdict(word: u32, why: String) -> Verdict {
     let facts = vec![
@@ -54,6 +52,7 @@ fn csr(hart: &Hart, address: u16) -> Option<String> {
             "CSR {name} needs mode {least}, and the hart is in {mode}"
         ));
     }
+    // ssp has a rule of its own.
     if address != SSP {
         return None;
     }

@@ -14,11 +14,12 @@ mod illegal;
 mod shadow;
 
 pub use flow::{pads_on, shadow_stack_on};
+pub use sporhulma::family;
 
 use crate::facts::Facts;
 use crate::map::PageMap;
 use crate::names::{mode_name, M};
-use crate::place::{Access, Kind};
+use crate::place::{by_the_rules, Access, Kind};
 use crate::state::State;
 use crate::symbols::Symbols;
 use disasm::Word;
@@ -27,24 +28,6 @@ use std::ops::Range;
 
 /// Rows of a report: what it is about, and what is said.
 pub type Rows = Vec<(&'static str, String)>;
-
-/// The decoder's families that can trap, as `sporhulma::family` numbers them.
-pub mod family {
-    pub const ILLEGAL: u64 = 0;
-    pub const JAL: u64 = 3;
-    pub const JALR: u64 = 4;
-    pub const BRANCH: u64 = 5;
-    pub const LOAD: u64 = 6;
-    pub const STORE: u64 = 7;
-    pub const ECALL: u64 = 13;
-    pub const EBREAK: u64 = 14;
-    pub const SRET: u64 = 15;
-    pub const MRET: u64 = 16;
-    pub const CSR: u64 = 17;
-    pub const PUSH: u64 = 19;
-    pub const POP: u64 = 20;
-    pub const SWAP: u64 = 21;
-}
 
 /// A trap with its reason.
 struct Verdict {
@@ -172,24 +155,7 @@ fn expected(before: &State, map: &PageMap, symbols: &Symbols) -> Option<Verdict>
 
 /// The access that a memory instruction makes, if the word is one and makes one.
 pub fn access(before: &State, word: u32) -> Option<Access> {
-    let fields = Word(word);
-    let hart = &before.hart;
-    let ssp = hart.rest[word::SSP];
-    let base = hart.x[fields.rs1() as usize];
-    let size = 1 << (fields.funct3() & 3);
-    let (kind, width, address) = match sporhulma::family(word) {
-        family::LOAD => (Kind::Load, size, base.wrapping_add(fields.imm_i() as u64)),
-        family::STORE => (Kind::Store, size, base.wrapping_add(fields.imm_s() as u64)),
-        family::PUSH if flow::shadow_stack_on(hart) => (Kind::Push, 8, ssp.wrapping_sub(8)),
-        family::POP if flow::shadow_stack_on(hart) => (Kind::Pop, 8, ssp),
-        family::SWAP => (Kind::Swap, size, base),
-        _ => return None,
-    };
-    Some(Access {
-        kind,
-        width,
-        address,
-    })
+    second::access(&by_the_rules(&before.hart), word)
 }
 
 /// The trap of a memory instruction.
@@ -212,8 +178,8 @@ fn access_trap(before: &State, map: &PageMap, symbols: &Symbols, word: u32) -> O
 /// Where in memory a step that does not trap writes, as indices of bytes.
 pub fn written(before: &State, map: &PageMap) -> Option<Range<usize>> {
     let access = access(before, before.next_word(map).ok()?)?;
-    let writes = matches!(access.kind, Kind::Store | Kind::Push | Kind::Swap);
-    let physical = before.path(map, access).end.ok().filter(|_| writes)?;
+    let path = before.path(map, access);
+    let physical = path.end.ok().filter(|_| access.kind.writes())?;
     let first = (physical - BASE) as usize;
     Some(first..first + access.width as usize)
 }

@@ -4,7 +4,7 @@ use super::table::{Frame, Naming, Nothing};
 use super::{Scope, Table};
 use crate::facts::{hex, object, Facts};
 use crate::map::{Entry, PAGE};
-use crate::place::Kind;
+use crate::place::{name, Kind};
 use serde_json::Value;
 use sporhulma::BASE;
 use std::ops::Range;
@@ -72,15 +72,15 @@ fn entry(entry: &Entry) -> Facts {
 }
 
 fn naming(naming: &Naming) -> Value {
-    let name = |kind: &Kind| Value::from(kind.name());
+    let named = |kind: &Kind| Value::from(name(*kind));
     let unusable = |(kind, lacks): &(Kind, Vec<&'static str>)| {
         object([
-            ("access", name(kind)),
+            ("access", named(kind)),
             ("lacks", list(lacks, |lack| Value::from(*lack))),
         ])
     };
     let own = [
-        ("usable", list(&naming.usable, name)),
+        ("usable", list(&naming.usable, named)),
         ("not_usable", list(&naming.unusable, unusable)),
         ("shadow_page", Value::from(u64::from(naming.shadow))),
     ];

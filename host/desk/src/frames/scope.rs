@@ -1,6 +1,7 @@
 //! Of which runs the theorem of docs/ISOLATION.md speaks: from a hart in U with Sv39 on, up to and including the first trap.
 
 use crate::names::{mode_name, U};
+use formats::csr::field::SV39;
 use sporhulma::{word, Hart};
 
 /// How a run stands to the theorem; the default is a run that it speaks of from its start to its end.
@@ -17,7 +18,7 @@ impl Scope {
     pub fn of(start: &Hart, followed: u64) -> Scope {
         let mode = start.rest[word::MODE];
         let mode = (mode != U).then(|| format!("it starts in {}", mode_name(mode)));
-        let bare = start.rest[word::SATP] >> 60 != 8;
+        let bare = start.rest[word::SATP] != SV39;
         let bare = bare.then(|| "satp is Bare at its start".to_string());
         Scope {
             unmet: mode.into_iter().chain(bare).collect(),

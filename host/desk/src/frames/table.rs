@@ -4,11 +4,11 @@
 //! rule 5 (valid) or rule 6 (the U bit) refuses names nothing. Every other names its frame, as the theorem counts it,
 //! whatever rules 7 and 8 leave to be done there.
 
-use crate::bits::{MXR, SSE};
 use crate::explain::shadow_stack_on;
 use crate::map::{Entry, PageMap, A, D, PAGE};
 use crate::names::U;
 use crate::place::{follow, Access, Kind, Refused};
+use formats::csr::field::{MXR, SSE, SV39};
 use sporhulma::{word, Hart, BASE};
 use std::collections::BTreeMap;
 use std::ops::Range;
@@ -143,7 +143,7 @@ impl Naming {
 fn in_user_mode(hart: &Hart) -> Hart {
     let mut hart = *hart;
     hart.rest[word::MODE] = U;
-    hart.rest[word::SATP] = 8 << 60;
+    hart.rest[word::SATP] = SV39;
     hart
 }
 
@@ -158,7 +158,7 @@ fn with_sse(hart: &Hart) -> Hart {
 fn refusal(hart: &Hart, entry: Entry, kind: Kind) -> Option<Refused> {
     let map = PageMap {
         entries: vec![entry],
-        words: Vec::new(),
+        words: vec![entry.page, entry.leaf],
     };
     let access = Access {
         kind,
@@ -176,7 +176,7 @@ fn refused_to_user(hart: &Hart, entry: Entry) -> Option<Refused> {
 
 /// Whether a user program can make the access, wherever the frame lies. With the shadow stack off it makes no shadow access at all.
 fn permitted(hart: &Hart, entry: Entry, kind: Kind) -> bool {
-    (!kind.shadow() || shadow_stack_on(hart)) && refusal(hart, entry, kind).is_none()
+    (!kind.is_shadow() || shadow_stack_on(hart)) && refusal(hart, entry, kind).is_none()
 }
 
 /// Of an access that is not permitted, but would be if nothing were lacking: each thing without which it is not, whatever else is

@@ -3,7 +3,7 @@
 use super::table::{Frame, Naming, Nothing};
 use super::{Scope, Table};
 use crate::map::{Entry, PAGE};
-use crate::place::Kind;
+use crate::place::{name, Kind};
 use crate::text::{rows, wrapped};
 use sporhulma::BASE;
 use std::ops::Range;
@@ -113,7 +113,7 @@ fn right(kind: Kind) -> &'static str {
         Kind::Load => "read",
         Kind::Store => "write",
         Kind::Fetch => "execute",
-        shadow => shadow.name(),
+        shadow => name(shadow),
     }
 }
 

@@ -70,7 +70,7 @@ fn memory(random: &mut Random) -> Vec<u8> {
 
 #[test]
 fn a_run_sees_what_a_trace_sees() {
-    let random = &mut Random(0x0bad_5eed_0bad_5eed);
+    let random = &mut Random::new(0x0bad_5eed_0bad_5eed);
     let mut seen = [[0; 3]; 4];
     let mut counted = 0;
     let symbols = Symbols::default();
@@ -127,8 +127,8 @@ fn a_run_sees_what_a_trace_sees() {
 /// What was kept of an earlier fetch is never taken for another page, mode or setting.
 #[test]
 fn a_watch_fetches_what_the_hart_fetches() {
-    let random = &mut Random(0x0dd_b1a5_ed00);
-    let mem: Vec<u8> = (0..0x2000).map(|_| random.next() as u8).collect();
+    let random = &mut Random::new(0x0dd_b1a5_ed00);
+    let mem: Vec<u8> = (0..0x2000).map(|_| random.word() as u8).collect();
     let (mut good, mut bad) = (0, 0);
     for _ in 0..200 {
         let map = map(random);

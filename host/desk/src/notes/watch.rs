@@ -5,11 +5,11 @@
 //! looks at each word before it is run; after that it goes at full speed. In a mode in which the shadow stack is not active it
 //! goes on looking, and counts what is met there.
 
-use crate::bits::{LPE, MLPE, MPRV, PMM, SSE};
 use crate::explain::{access, family, pads_on, shadow_stack_on};
 use crate::map::{PageMap, PAGE};
 use crate::names::{M, U};
 use crate::state::State;
+use formats::csr::field::{LPE, MLPE, MPRV, PMM, SSE, SV39};
 use sporhulma::{word, Answer, Hart, BASE};
 
 /// Pushes and pop-checks that did nothing.
@@ -216,7 +216,7 @@ impl Watch {
 }
 
 fn sv39(hart: &Hart) -> bool {
-    hart.rest[word::SATP] >> 60 == 8
+    hart.rest[word::SATP] == SV39
 }
 
 /// What a word is to the watch.

@@ -68,7 +68,7 @@ fn met(whole: &[Line], random: &mut Random) -> u64 {
 
 #[test]
 fn a_window_shows_what_the_whole_shows() {
-    let random = &mut Random(0x5eed_0bad_5eed_0bad);
+    let random = &mut Random::new(0x5eed_0bad_5eed_0bad);
     let symbols = Symbols::default();
     let progress = &Progress::start(None, &symbols).unwrap();
     let (mut reached, mut missed, mut late) = (0, 0, 0);

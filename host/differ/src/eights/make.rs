@@ -2,7 +2,7 @@
 
 use super::shape::{Register, Shape, SHAPES};
 use super::Numbers;
-use crate::random::Random;
+use formats::random::Random;
 use sporhulma::number::{FAMILY, FIRST, IMMEDIATE, OPERATION, RD, RS1, RS2, SECOND};
 
 /// How eight numbers were made.

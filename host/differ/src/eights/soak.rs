@@ -2,9 +2,9 @@
 
 use super::make::{make, Sort, SORTS};
 use super::{check, text, Scribe};
-use crate::mix::FAMILIES;
 use crate::soak::MOST_FAILURES;
 use sporhulma::number::FAMILY;
+use sporhulma::FAMILIES;
 
 /// The least share of eights that are written, and of those that are refused, in percent.
 const LEAST_SHARE: u64 = 35;

@@ -2,8 +2,8 @@
 
 use super::good::{Line, Text, CR_LF, LF};
 use crate::case::BASE;
-use crate::random::Random;
 use formats::hex::{line, record, DATA, END, START, UPPER, WINDOW};
+use formats::random::Random;
 
 /// Makes a good text wrong and gives the number of the line that must be named, from 1.
 pub type Damage = fn(&mut Random, &mut Text) -> u64;

@@ -1,8 +1,8 @@
 //! Texts that must be loaded, with what they store.
 
 use crate::case::BASE;
-use crate::random::Random;
 use formats::hex::{record, DATA, END, MOST_DATA, START, UPPER, WINDOW};
+use formats::random::Random;
 
 pub const LF: &[u8] = b"\n";
 pub const CR_LF: &[u8] = b"\r\n";

@@ -4,7 +4,7 @@ use super::damage::DAMAGES;
 use super::good::{good, Text};
 use super::mutate::mutate;
 use crate::case::{fill, PAGE};
-use crate::random::Random;
+use formats::random::Random;
 use sporhulma::Loaded;
 
 /// Keeps the streams of texts apart from those of steps, runs and pairs.

@@ -1,6 +1,6 @@
 //! Bytes of a text changed at random, as a disk or a careless editor does it. What becomes of it is for the readers to say.
 
-use crate::random::Random;
+use formats::random::Random;
 
 /// Bytes that mean something in a text.
 const ALPHABET: &[u8] = b":0123456789ABCDEFabcdef\r\n";

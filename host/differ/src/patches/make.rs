@@ -8,10 +8,10 @@ use super::writer::{Writer, AGAIN, CONSTANTS, OPEN, STACK};
 use crate::case::{Case, BASE, PAGE};
 use crate::maker::Maker;
 use crate::program::TABLE;
-use crate::random::Random;
 use crate::runs::write_handlers;
 use crate::state::{keepers, registers, settings, View};
 use crate::world::{address, Role};
+use formats::random::Random;
 use sporhulma::word::{PC, SSP};
 
 /// Keeps the streams of these programs apart from those of other cases.
@@ -85,10 +85,10 @@ pub fn make(seed: u64, number: u64, made: &mut Made) {
 /// The pointers into the pages, where masking is the same all along with upper bits that it changes.
 fn point(maker: &mut Maker, pages: &Pages, plan: &Plan) {
     let masked = match plan.kind {
-        Kind::User | Kind::Supervisor if !plan.descends => maker.view.data_masked,
+        Kind::User | Kind::Supervisor if !plan.descends => maker.view.data.bits,
         _ => 0,
     };
-    let middle = |role| maker.world.at(role, maker.view.data_sv39, PAGE / 2);
+    let middle = |role| maker.world.at(role, maker.view.data.paged, PAGE / 2);
     let pointers = [
         (TABLE, middle(Role::Data)),
         (2, middle(Role::Data) + PAGE / 2 - 64),
@@ -155,7 +155,7 @@ fn write_program(maker: &mut Maker, pages: &Pages, plan: Plan) {
         let place = pages.world.offset(CONSTANT, at);
         maker.case.poke(place, &constant.to_le_bytes());
     }
-    maker.case.hart.rest[PC] = pages.world.at(Role::Code, maker.view.fetch_sv39, start);
+    maker.case.hart.rest[PC] = pages.world.at(Role::Code, maker.view.fetch.paged, start);
 }
 
 /// Where the program starts in the code: often so that it goes over the edge between its first two pages, and in the last one if data are there.

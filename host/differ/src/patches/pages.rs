@@ -3,8 +3,8 @@
 
 use super::plan::{Kind, Plan};
 use crate::case::{Case, BASE, PAGE};
-use crate::random::Random;
 use crate::world::*;
+use formats::random::Random;
 
 /// So many pages of code, one behind the other: more than the 16 KiB that a run may remember words of.
 pub const CODE: usize = 6;

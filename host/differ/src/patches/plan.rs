@@ -1,8 +1,8 @@
 //! How a program that patches itself runs: in which mode, and so by which of its code's names it can be patched.
 
 use crate::case::Case;
-use crate::random::Random;
-use crate::state::{LPE, MPP, MPRV, MXR, SSE, SUM, SV39};
+use formats::csr::field::*;
+use formats::random::Random;
 use sporhulma::word::*;
 
 #[derive(Clone, Copy, PartialEq, Eq, Debug)]
@@ -99,7 +99,7 @@ impl Plan {
 
     /// Turns a hart's settings into those of the plan; what would end most programs at once is off.
     pub fn set(&self, random: &mut Random, case: &mut Case) {
-        const SAVED_PADS: u64 = 1 << 23 | 1 << 41;
+        const SAVED_PADS: u64 = SPELP | MPELP;
         let rest = &mut case.hart.rest;
         rest[MODE] = self.mode();
         rest[ELP] = 0;
@@ -110,7 +110,7 @@ impl Plan {
             rest[csr] = rest[csr] & !LPE | if random.chance(40) { LPE } else { 0 };
         }
         rest[MSTATUS] &= !(MPP | MPRV | SAVED_PADS);
-        rest[MSTATUS] |= self.below << 11;
+        rest[MSTATUS] |= self.below << MPP_SHIFT;
         match self.kind {
             // With MXR too no address is masked, and the program turns MXR.
             Kind::Moved => rest[MSTATUS] = rest[MSTATUS] & !MXR | MPRV,

@@ -4,14 +4,17 @@
 //! run again, all in one call: the run that remembers the word from before would carry out the wrong one. The counts decide about no difference.
 
 use super::make::{AROUND, SWEPT};
-use super::store::{stored, Stored, ALL, DOUBLES};
+use super::sorts::*;
+use super::store::{stored, Stored};
 use crate::again::{place_at, take_again, Step};
 use crate::case::{Case, PAGE};
 use crate::lifted::access;
-use crate::mix::{list, FAMILIES};
+use crate::mix::list;
 use crate::state::View;
 use crate::ways::{Way, Ways};
+use second::Kind;
 use sporhulma::word::*;
+use sporhulma::FAMILIES;
 use sporhulma::{Answer, Hart};
 use std::collections::{BTreeMap, BTreeSet};
 
@@ -21,76 +24,10 @@ const DEEP: u64 = 512;
 const LARGE: u64 = 1024;
 const LARGER: u64 = 4096;
 
-/// Where the word stood, seen from the instruction that patched it.
-const PLACES: [&str; 5] = ["itself", "next", "just run", "ahead", "behind"];
-const EDGES: [&str; 3] = ["last of a page", "first of a page", "next, over an edge"];
-/// By which address: the one that it was run from, another page of the same frame, or through MPRV.
-const NAMES: [&str; 3] = ["its own", "another page", "MPRV"];
-const RUNS: [&str; 2] = ["the page as before", "another page"];
-const MODES: [&str; 4] = ["U", "S", "S without Sv39", "M"];
-const SETTINGS: [&str; 8] = [
-    "mstatus", "sstatus", "satp", "menvcfg", "senvcfg", "mseccfg", "MRET", "SRET",
-];
-/// The families of words that are patched in.
-const FORMS: [usize; 19] = [
-    0, 1, 2, 3, 5, 6, 7, 8, 9, 10, 11, 12, 13, 14, 17, 18, 19, 22, 23,
-];
-
-/// What ends a stay on the fast path, and the causes of the traps among that.
-const LEFT: [&str; 6] = ["trap", "swap", "CSR", "MRET", "SRET", "jump to a pad"];
-const CAUSES: [&str; 9] = [
-    "cause 2", "cause 4", "cause 5", "cause 6", "cause 7", "cause 8", "cause 11", "cause 13",
-    "cause 15",
-];
-/// What had been in the memo at the place of a word.
-const TAKEN: [&str; 2] = ["another word's", "the same word's by another page"];
-
 /// So many of a hundred programs are to run a patched word, so many one that was run late enough before, and so many one on the fast path.
 const LEAST: f64 = 85.0;
 const LEAST_DEEP: f64 = 40.0;
 const LEAST_FAST: f64 = 35.0;
-
-type Sort = (&'static str, &'static str);
-
-/// A word that is to be a landing pad, as the hart expects one.
-const PAD: Sort = ("word", "landing pad");
-/// A store to data in the page of the code that stores.
-const BESIDE: Sort = ("data", "in the code's page");
-const LARGE_CODE: Sort = ("code", "over 1,024 words");
-const LARGER_CODE: Sort = ("code", "over 4,096 words");
-/// The fast path taken up again at once behind a slow step.
-const AT_ONCE: Sort = ("fast path", "again at once");
-/// A page remembered where another one had been.
-const CROWDED: Sort = ("fast path", "page in another's place");
-
-/// Every sort that there must be, and those of which there must be some that were run late enough before.
-fn sorts() -> (Vec<Sort>, usize) {
-    let mut sorts = Vec::new();
-    sorts.extend(ALL.map(|by| ("by", by)));
-    sorts.extend(DOUBLES.map(|by| ("second word of", by)));
-    sorts.extend(PLACES.map(|place| ("word", place)));
-    sorts.extend(EDGES.map(|edge| ("word", edge)));
-    sorts.push(PAD);
-    sorts.extend(NAMES.map(|name| ("address", name)));
-    sorts.extend(RUNS.map(|run| ("run by", run)));
-    sorts.extend(MODES.map(|mode| ("run in", mode)));
-    sorts.push(BESIDE);
-    let deep = sorts.len();
-    sorts.push(LARGER_CODE);
-    sorts.extend([AT_ONCE, CROWDED]);
-    sorts.extend(LEFT.map(|word| ("fast path left for", word)));
-    sorts.extend(CAUSES.map(|cause| ("fast path left for", cause)));
-    sorts.extend(TAKEN.map(|by| ("entry in the place of", by)));
-    sorts.extend(SETTINGS.map(|setting| ("after", setting)));
-    sorts.extend(FORMS.map(|family| ("form", FAMILIES[family])));
-    sorts.push(LARGE_CODE);
-    (sorts, deep)
-}
-
-/// What the fast path always leaves: swaps, and where a landing pad is expected.
-fn is_slow(sort: &Sort) -> bool {
-    *sort == PAD || sort.1.starts_with("swap")
-}
 
 /// A word as it was run: from where, after how many steps with the setting, and how often the setting had changed.
 #[derive(Clone, Copy)]
@@ -237,7 +174,7 @@ impl Seen {
         }
         if let Some(access) = step.word.and_then(|word| access(step.before, word)) {
             let of = access.address / PAGE;
-            let store = u64::from(access.kind == "store");
+            let store = u64::from(access.kind == Kind::Store);
             let entry = Entry { known, of, at: 0 };
             let before = take(&mut self.pages, of % 64 + 64 * store, entry);
             if before.is_some_and(|before| before.of != of) {
@@ -319,7 +256,7 @@ impl Seen {
         self.count(("address", patched.name), deep);
         self.count(("run by", RUNS[usize::from(now.pc != before.pc)]), deep);
         let view = View::of(&hart.rest);
-        let mode = match (view.mode, view.fetch_sv39) {
+        let mode = match (view.mode, view.fetch.paged) {
             (0, _) => MODES[0],
             (1, true) => MODES[1],
             (1, false) => MODES[2],
@@ -346,7 +283,7 @@ impl Seen {
             let address = (stored.address & !3) + 4 * (at - first);
             let known = self.word(at as usize);
             let Some(before) = known.ran else { continue };
-            let name = match (view.fetch_sv39, view.data_sv39) {
+            let name = match (view.fetch.paged, view.data.paged) {
                 (true, _) if address != before.pc => NAMES[1],
                 (false, true) => NAMES[2],
                 _ => NAMES[0],
@@ -359,64 +296,6 @@ impl Seen {
                 before,
             });
         }
-    }
-}
-
-/// Where a word at `word` stands, seen from `pc`.
-fn place(word: u64, pc: u64) -> &'static str {
-    match word.wrapping_sub(pc) as i64 {
-        0 => PLACES[0],
-        4 => PLACES[1],
-        -4 => PLACES[2],
-        5.. => PLACES[3],
-        _ => PLACES[4],
-    }
-}
-
-fn edge(place: &str, pc: u64) -> Option<&'static str> {
-    match pc % PAGE {
-        0 if place == PLACES[1] => Some(EDGES[2]),
-        0 => Some(EDGES[1]),
-        at if at == PAGE - 4 => Some(EDGES[0]),
-        _ => None,
-    }
-}
-
-/// Why the fast path leaves a step to the slow path, and the cause of a trap.
-fn left(step: &Step, word: u32) -> [&'static str; 2] {
-    if step.answer.trapped {
-        let name = format!("cause {}", step.answer.cause);
-        let cause = CAUSES.into_iter().find(|cause| *cause == name);
-        return [LEFT[0], cause.unwrap_or("another cause")];
-    }
-    let why = match second::family(word) {
-        4 => LEFT[5],
-        15 => LEFT[4],
-        16 => LEFT[3],
-        17 => LEFT[2],
-        21 => LEFT[1],
-        _ => "something else",
-    };
-    [why, "no trap"]
-}
-
-/// By what a step has changed a word on which the setting depends.
-fn change(step: &Step) -> Option<&'static str> {
-    const WORDS: [usize; 6] = [MODE, SATP, MSTATUS, MENVCFG, SENVCFG, MSECCFG];
-    let same = |word: &usize| step.before.rest[*word] == step.after.rest[*word];
-    if step.answer.trapped || WORDS.iter().all(same) {
-        return None;
-    }
-    let word = step.word?;
-    match (second::family(word), word >> 20) {
-        (16, _) => Some("MRET"),
-        (15, _) => Some("SRET"),
-        (_, 0x300) => Some("mstatus"),
-        (_, 0x100) => Some("sstatus"),
-        (_, 0x180) => Some("satp"),
-        (_, 0x30A) => Some("menvcfg"),
-        (_, 0x10A) => Some("senvcfg"),
-        _ => Some("mseccfg"),
     }
 }
 

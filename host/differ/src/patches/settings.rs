@@ -3,23 +3,16 @@
 use super::plan::Kind;
 use super::writer::*;
 use crate::program::TABLE;
-use crate::state::{LPE, MPRV, MXR, SSE, SUM, SV39};
+use crate::state::{LPE, MPP_SHIFT, MPRV, MXR, PMM_SHIFT, SSE, SUM, SV39};
+use formats::csr::field::{MPP, SPP};
+use formats::csr::{MENVCFG, MEPC, MSECCFG, MSTATUS, SATP, SENVCFG, SEPC, SSTATUS};
 use formats::*;
 
-const SSTATUS: u64 = 0x100;
-const SENVCFG: u64 = 0x10A;
-const SEPC: u64 = 0x141;
-const SATP: u64 = 0x180;
-const MSTATUS: u64 = 0x300;
-const MENVCFG: u64 = 0x30A;
-const MEPC: u64 = 0x341;
-const MSECCFG: u64 = 0x747;
-
 /// One bit of PMM: 0 becomes 2, and 2 becomes 0.
-const MASKS: u64 = 2 << 32;
+const MASKS: u64 = 2 << PMM_SHIFT;
 
 /// What M turns, and what S does.
-const MACHINE: [(u64, u64); 11] = [
+const MACHINE: [(u16, u64); 11] = [
     (MSTATUS, MPRV),
     (MSTATUS, MXR),
     (MSTATUS, SUM),
@@ -32,7 +25,7 @@ const MACHINE: [(u64, u64); 11] = [
     (SATP, SV39),
     (MSECCFG, MASKS),
 ];
-const SUPERVISOR: [(u64, u64); 4] = [
+const SUPERVISOR: [(u16, u64); 4] = [
     (SSTATUS, MXR),
     (SSTATUS, SUM),
     (SENVCFG, SSE | LPE),
@@ -46,7 +39,7 @@ impl Writer<'_> {
             1 if self.plan.kind == Kind::Turning && self.random.chance(60) => self.turn_satp(),
             _ if self.random.chance(25) => self.come_back(),
             mode => {
-                let all: &[(u64, u64)] = if mode == 3 { &MACHINE } else { &SUPERVISOR };
+                let all: &[(u16, u64)] = if mode == 3 { &MACHINE } else { &SUPERVISOR };
                 let (csr, bits) = self.random.pick(all);
                 self.turn_and_back(csr, bits);
             }
@@ -59,22 +52,22 @@ impl Writer<'_> {
         self.turn(SATP, SV39);
     }
 
-    fn turn(&mut self, csr: u64, bits: u64) {
+    fn turn(&mut self, csr: u16, bits: u64) {
         let constant = self.constant(TURNED, bits);
         self.words.push(constant);
         self.write(csr);
     }
 
-    fn write(&mut self, csr: u64) {
+    fn write(&mut self, csr: u16) {
         self.words.extend([
-            i(SYSTEM, 2, VALUE, 0, csr),
+            zicsr(2, VALUE, csr, 0),
             r(OP, 4, 0, VALUE, VALUE, TURNED),
-            i(SYSTEM, 1, 0, VALUE, csr),
+            zicsr(1, 0, csr, VALUE),
         ]);
     }
 
     /// Turns them and turns them back. Between the two memory may be out of reach, or another: sometimes an access made before is made again.
-    fn turn_and_back(&mut self, csr: u64, bits: u64) {
+    fn turn_and_back(&mut self, csr: u16, bits: u64) {
         let glance = self.random.chance(50).then(|| self.glance());
         self.warm();
         self.words.extend(glance);
@@ -104,22 +97,26 @@ impl Writer<'_> {
     /// A return that stays in the mode: MRET with MPP M, or SRET with SPP S. It leaves U there, and what MPRV wants is put back.
     fn come_back(&mut self) {
         let (epc, status, field, back) = match self.mode {
-            3 => (MEPC, MSTATUS, 0x1800, MRET),
-            _ => (SEPC, SSTATUS, 0x100, SRET),
+            3 => (MEPC, MSTATUS, MPP, MRET),
+            _ => (SEPC, SSTATUS, SPP, SRET),
         };
         let moved = self.plan.kind == Kind::Moved && self.mode == 3;
-        let below = if moved { self.plan.below << 11 } else { 0 };
+        let below = if moved {
+            self.plan.below << MPP_SHIFT
+        } else {
+            0
+        };
         let constants = [self.constant(TURNED, field), self.constant(BITS, below)];
         self.words.extend(constants);
         let at = self.reserve(2);
         self.words
-            .extend([i(SYSTEM, 1, 0, VALUE, epc), i(SYSTEM, 2, 0, TURNED, status)]);
+            .extend([zicsr(1, 0, epc, VALUE), zicsr(2, 0, status, TURNED)]);
         self.warm();
         self.words.push(back);
         let behind = self.here() - self.offset(at);
         self.words[at] = u(AUIPC, VALUE, 0);
         self.words[at + 1] = i(OP_IMM, 0, VALUE, VALUE, behind);
-        self.words.push(i(SYSTEM, 2, 0, BITS, status));
+        self.words.push(zicsr(2, 0, status, BITS));
     }
 
     /// Goes down to where the plan says, by the name that the code has there.
@@ -130,14 +127,11 @@ impl Writer<'_> {
             false => (SEPC, SSTATUS, SRET, self.again),
         };
         // MPP is what it should be, SPP may not.
-        let field = if by_mret { 0 } else { 0x100 };
+        let field = if by_mret { 0 } else { SPP };
         let at = self.reserve(1);
         let field = self.constant(TURNED, field);
-        self.words.extend([
-            field,
-            i(SYSTEM, 1, 0, VALUE, epc),
-            i(SYSTEM, 3, 0, TURNED, status),
-        ]);
+        self.words
+            .extend([field, zicsr(1, 0, epc, VALUE), zicsr(3, 0, status, TURNED)]);
         self.warm();
         self.words.push(back);
         self.words[at] = self.constant(VALUE, base.wrapping_add(self.here()));

@@ -6,10 +6,8 @@ use super::words::{turn, Taste};
 use super::writer::*;
 use crate::case::PAGE;
 use crate::state::MPRV;
+use formats::csr::{MSTATUS, SSP};
 use formats::*;
-
-const SSP: u64 = 0x011;
-const MSTATUS: u64 = 0x300;
 
 /// By which instruction.
 #[derive(Clone, Copy, PartialEq, Eq, Debug)]
@@ -111,7 +109,7 @@ impl Patch {
 
     /// The word that points ssp behind the bytes that a push stores.
     fn point(&self) -> u32 {
-        i(SYSTEM, 1, 0, ADDRESS, SSP)
+        zicsr(1, 0, SSP, ADDRESS)
     }
 
     fn is_double(&self) -> bool {
@@ -120,15 +118,15 @@ impl Patch {
 
     /// The word that turns MPRV on for it.
     fn begin(&self) -> Option<u32> {
-        self.moved.then(|| i(SYSTEM, 2, 0, BITS, MSTATUS))
+        self.moved.then(|| zicsr(2, 0, MSTATUS, BITS))
     }
 
     /// The word that turns MPRV off, or gives ssp back what it was.
     fn end(&self) -> Option<u32> {
         match self.by {
             By::Push if self.late => Some(pop_check(self.link)),
-            By::Push => Some(i(SYSTEM, 1, 0, KEPT, SSP)),
-            _ => self.moved.then(|| i(SYSTEM, 3, 0, BITS, MSTATUS)),
+            By::Push => Some(zicsr(1, 0, SSP, KEPT)),
+            _ => self.moved.then(|| zicsr(3, 0, MSTATUS, BITS)),
         }
     }
 }
@@ -136,7 +134,7 @@ impl Patch {
 impl Patch {
     /// The word behind all rounds of it, which gives ssp back what it was where a round does not.
     pub fn over(&self) -> Option<u32> {
-        (self.late && self.by == By::Push).then(|| i(SYSTEM, 1, 0, KEPT, SSP))
+        (self.late && self.by == By::Push).then(|| zicsr(1, 0, SSP, KEPT))
     }
 }
 
@@ -239,7 +237,7 @@ impl Writer<'_> {
         self.words[at..at + 3].copy_from_slice(&address);
         self.words[at + 3] = self.constant(TURNED, site.turned);
         if patch.by == By::Push {
-            self.words[at + 4] = i(SYSTEM, 2, KEPT, 0, SSP);
+            self.words[at + 4] = zicsr(2, KEPT, SSP, 0);
             if patch.late {
                 self.words[at + 5] = patch.point();
             }

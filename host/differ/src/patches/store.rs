@@ -1,10 +1,7 @@
 //! What a step stored, and where: for those who count patches, and for those who plant a fault.
 
-use crate::case::{BASE, PAGE};
-use crate::lifted::{access, masked};
-use crate::named::{leaf, place};
-use crate::state::{View, SSE};
-use sporhulma::word::{MENVCFG, SENVCFG, SSP};
+use crate::simulator::by_second;
+use second::Kind;
 use sporhulma::Hart;
 
 pub const PUSH: &str = "push";
@@ -25,44 +22,22 @@ pub struct Stored {
 
 /// What a word that did not trap has stored; `before` is the hart before it.
 pub fn stored(before: &Hart, word: u32, map: &[u64]) -> Option<Stored> {
-    let view = View::of(&before.rest);
-    let funct3 = word as usize >> 12 & 3;
-    let (by, plain, bytes) = match second::family(word) {
-        7 => (STORES[funct3], access(before, word)?.address, 1 << funct3),
-        19 if pushes(before, view.mode) => (PUSH, before.rest[SSP].wrapping_sub(8), 8),
-        21 => (
-            SWAPS[funct3 - 2],
-            access(before, word)?.address,
-            1 << funct3,
-        ),
+    let hart = by_second(before);
+    let access = second::access(&hart, word)?;
+    let by = match (access.kind, access.width) {
+        (Kind::Store, bytes) => STORES[bytes.ilog2() as usize],
+        (Kind::Push, _) => PUSH,
+        (Kind::Swap, bytes) => SWAPS[bytes.ilog2() as usize - 2],
         _ => return None,
     };
-    let address = if view.lifted {
-        plain
-    } else {
-        masked(&view, plain)
-    };
-    let place = if view.data_sv39 {
-        place(leaf(map, address)?) * PAGE + address % PAGE
-    } else {
-        address.wrapping_sub(BASE)
-    };
+    // It reached memory, however long that is.
+    let path = second::path(&hart, map, usize::MAX, access);
     Some(Stored {
         by,
-        address,
-        place,
-        bytes,
+        address: path.transformed,
+        place: path.place.ok()? as u64,
+        bytes: access.width,
     })
-}
-
-/// Whether a push does something in this mode.
-fn pushes(hart: &Hart, mode: u64) -> bool {
-    let [menvcfg, senvcfg] = [MENVCFG, SENVCFG].map(|csr| hart.rest[csr] & SSE != 0);
-    match mode {
-        0 => menvcfg && senvcfg,
-        1 => menvcfg,
-        _ => false,
-    }
 }
 
 #[cfg(test)]

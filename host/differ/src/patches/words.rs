@@ -5,8 +5,9 @@
 
 use crate::case::PAGE;
 use crate::program::TABLE;
-use crate::random::Random;
+use formats::csr::{SSCRATCH, SSP};
 use formats::extensions::{drawn, ABSENT};
+use formats::random::Random;
 use formats::*;
 
 /// The register that takes up.
@@ -38,9 +39,6 @@ pub struct Turn {
     pub byte: u64,
     pub bits: u32,
 }
-
-const SSP: u64 = 0x011;
-const SSCRATCH: u64 = 0x140;
 
 fn scratch(random: &mut Random) -> u32 {
     10 + random.below(6) as u32
@@ -75,8 +73,8 @@ pub fn tame(random: &mut Random, taste: Taste) -> u32 {
         22 if taste.skips => b(random.pick(&[0, 1, 4, 5, 6, 7]), rs1, rs2, 8),
         23 | 24 if !taste.plain => load(random, taste, rd),
         25 | 26 if !taste.plain => store(random, taste, rs1),
-        27 if taste.mode == 0 && !taste.late => i(SYSTEM, 2, rd, 0, SSP),
-        27 if taste.mode > 0 => i(SYSTEM, random.pick(&[1, 2, 3]), rd, rs1, SSCRATCH),
+        27 if taste.mode == 0 && !taste.late => zicsr(2, rd, SSP, 0),
+        27 if taste.mode > 0 => zicsr(random.pick(&[1, 2, 3]), rd, SSCRATCH, rs1),
         28 if !taste.plain && !taste.late && word & 3 == 0 => push(random.pick(&[1, 5])),
         _ => i(OP_IMM, 0, SUM, SUM, word >> 52),
     }
@@ -107,7 +105,7 @@ fn is_tame(word: u32, taste: Taste) -> bool {
     // An offset with its upper bit set points to the lower half.
     let table = !taste.plain && rs1 == TABLE && !(taste.upper && word >> 31 == 1);
     let width = 1 << (word >> 12 & 3);
-    let csr = u64::from(word >> 20);
+    let csr = (word >> 20) as u16;
     match second::family(word) {
         1 | 2 | 8..=12 | 18 | 22 | 23 => quiet,
         17 if csr == SSP => quiet && !taste.late && word >> 12 & 0xFF == 2,

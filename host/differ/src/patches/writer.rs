@@ -8,7 +8,7 @@ use super::plan::{Kind, Plan};
 use super::words::{tame, Taste, NOP};
 use crate::case::PAGE;
 use crate::program::Program;
-use crate::random::Random;
+use formats::random::Random;
 use formats::*;
 
 pub const RA: u32 = 1;

@@ -7,9 +7,11 @@
 //! Below a CSR's mode each access must be illegal on both sides.
 
 use super::body::{holder, source, target};
-use super::{handler_address, DELEGATED, MSTATUS, M_HANDLERS, S_HANDLERS};
+use super::{handler_address, DELEGATED, M_HANDLERS, S_HANDLERS};
 use crate::encode::*;
-use crate::random::Random;
+use formats::csr::field::{MIE, MPIE, MPP, MPP_SHIFT, MPRV, MXR, SIE, SPIE, SPP, SUM};
+use formats::csr::*;
+use formats::random::Random;
 
 /// What may be written to a CSR.
 #[derive(Clone, Copy)]
@@ -22,22 +24,26 @@ enum Write {
     Handlers([u64; 2]),
 }
 
-const CSRS: [(u32, Write); 19] = [
-    (0x100, Write::Bits(0xc_0122)), // sstatus: SIE, SPIE, SPP, SUM, MXR
-    (0x105, Write::Handlers(S_HANDLERS)), // stvec
-    (0x140, Write::Anything),       // sscratch
-    (0x141, Write::MultiplesOfFour), // sepc
-    (0x142, Write::Anything),       // scause
-    (0x143, Write::Anything),       // stval
-    (0x180, Write::Nothing),        // satp
-    (MSTATUS, Write::Bits(0xe_01aa)), // SIE, MIE, SPIE, MPIE, SPP, MPRV, SUM, MXR; MPP is seen to below
-    (0x302, Write::Bits(DELEGATED)),  // medeleg
-    (0x305, Write::Handlers(M_HANDLERS)), // mtvec
-    (0x340, Write::Anything),         // mscratch
-    (0x341, Write::MultiplesOfFour),  // mepc
-    (0x342, Write::Anything),         // mcause
-    (0x343, Write::Anything),         // mtval
-    (0x000, Write::Anything),         // the rest is on neither side
+const CSRS: [(u16, Write); 19] = [
+    (SSTATUS, Write::Bits((SIE | SPIE | SPP | SUM | MXR) as i32)),
+    (STVEC, Write::Handlers(S_HANDLERS)),
+    (SSCRATCH, Write::Anything),
+    (SEPC, Write::MultiplesOfFour),
+    (SCAUSE, Write::Anything),
+    (STVAL, Write::Anything),
+    (SATP, Write::Nothing),
+    // MPP is seen to below.
+    (
+        MSTATUS,
+        Write::Bits((SIE | MIE | SPIE | MPIE | SPP | MPRV | SUM | MXR) as i32),
+    ),
+    (MEDELEG, Write::Bits(DELEGATED)),
+    (MTVEC, Write::Handlers(M_HANDLERS)),
+    (MSCRATCH, Write::Anything),
+    (MEPC, Write::MultiplesOfFour),
+    (MCAUSE, Write::Anything),
+    (MTVAL, Write::Anything),
+    (0x000, Write::Anything), // the rest is on neither side
     (0x1ff, Write::Anything),
     (0x3ff, Write::Anything),
     (0x5ff, Write::Anything),
@@ -46,18 +52,18 @@ const CSRS: [(u32, Write); 19] = [
 
 /// The words of one access, with those that make the value to be written.
 pub fn access(random: &mut Random) -> Vec<u32> {
-    let (address, write) = random.one_of(&CSRS);
+    let (address, write) = random.pick(&CSRS);
     let rd = target(random);
     if random.once_in(3) {
-        return vec![csr(random.one_of(&[2, 3, 6, 7]), rd, address, 0)];
+        return vec![csr(random.pick(&[2, 3, 6, 7]), rd, address, 0)];
     }
-    let (operation, number) = (1 + random.below(3), random.below(32));
+    let (operation, number) = (1 + random.below(3) as u32, random.below(32) as u32);
     let by_number = random.once_in(3);
     match write {
         Write::Nothing => vec![csr_read(rd, address)],
         Write::Handlers(handlers) => {
             let register = holder(random);
-            let [high, low, sum] = handler_address(register, random.one_of(&handlers));
+            let [high, low, sum] = handler_address(register, random.pick(&handlers));
             vec![high, low, sum, csr(1, rd, address, register)]
         }
         Write::Anything if by_number => vec![csr(operation | 4, rd, address, number)],
@@ -76,7 +82,7 @@ pub fn access(random: &mut Random) -> Vec<u32> {
         Write::Bits(bits) => {
             let (register, value) = (
                 target(random),
-                random.next() as i32 & bits | previous(random, address, operation),
+                random.word() as i32 & bits | previous(random, address, operation),
             );
             let [high, low] = constant(register, value);
             vec![high, low, csr(operation, rd, address, register)]
@@ -86,10 +92,10 @@ pub fn access(random: &mut Random) -> Vec<u32> {
 
 /// MPP, for a write of mstatus: each mode for CSRRW, and all or no bits for the others, which so
 /// never make a 2 of it.
-fn previous(random: &mut Random, address: u32, operation: u32) -> i32 {
+fn previous(random: &mut Random, address: u16, operation: u32) -> i32 {
     match (address, operation) {
-        (MSTATUS, 1) => random.one_of(&[0, 0x800, 0x1800]),
-        (MSTATUS, _) => random.one_of(&[0, 0x1800]),
+        (MSTATUS, 1) => random.pick(&[0, 1 << MPP_SHIFT, MPP as i32]),
+        (MSTATUS, _) => random.pick(&[0, MPP as i32]),
         _ => 0,
     }
 }

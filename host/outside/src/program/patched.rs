@@ -143,7 +143,7 @@ pub fn patched() -> impl Iterator<Item = (&'static str, Program)> {
 fn program(way: Way) -> Program {
     let mut image = vec![0; MEMORY];
     place(&mut image, BASE, &[jal(0, (START - BASE) as i32)]);
-    place(&mut image, M_HANDLERS[0], &handler(0x340, MRET));
+    place(&mut image, M_HANDLERS[0], &handler(address::MSCRATCH, MRET));
     let mut writer = Writer {
         way,
         base: way.run_at(CODE),
@@ -179,10 +179,7 @@ fn copy_code(image: &mut [u8]) {
 
 /// Writes the page tables into memory for QEMU, and gives the map for our side.
 fn write_tables(image: &mut [u8], way: Way) -> Vec<u64> {
-    const V: u64 = 1;
-    const R: u64 = 2;
-    const W: u64 = 4;
-    const X: u64 = 8;
+    use formats::leaf::{A, D, R, U, V, W, X};
     let [root, next, leaves] = TABLES;
     let mut entry = |table: u64, at: u64, word: u64| {
         let place = (table - BASE + 8 * at) as usize;
@@ -192,8 +189,7 @@ fn write_tables(image: &mut [u8], way: Way) -> Vec<u64> {
     entry(root, VIRTUAL >> 30, to(next));
     entry(root, BASE >> 30, to(next));
     entry(next, 0, to(leaves));
-    // A, D and, unless S runs it, U.
-    let usual = V | 0xc0 | if way.mode == Mode::S { 0 } else { 0x10 };
+    let usual = V | A | D | if way.mode == Mode::S { 0 } else { U };
     let run = if way.open { R | X } else { R | W | X };
     let mut pages = Vec::new();
     for (behind, rights) in [(0, run), (AGAIN, R | X), (OPEN, R | W)] {
@@ -217,28 +213,32 @@ fn write_tables(image: &mut [u8], way: Way) -> Vec<u64> {
 /// In M: the handler, satp and MPP, and then the code.
 fn prologue(way: Way) -> Vec<u32> {
     let mut words = relative(ADDRESS, START, M_HANDLERS[0]).to_vec();
-    words.push(csr_write(0x305, ADDRESS));
+    words.push(csr_write(address::MTVEC, ADDRESS));
     words.extend(constant(SATP, (TABLES[0] >> 12) as i32));
     words.extend([
         addi(TURN, 0, 1),
         i_type(OP_IMM, 1, TURN, TURN, 63),
         r_type(OP, 6, 0, SATP, SATP, TURN),
-        csr_write(0x180, if way.turns { 0 } else { SATP }),
+        csr_write(address::SATP, if way.turns { 0 } else { SATP }),
         addi(TURN, 0, 0),
         addi(SUM, 0, 0),
     ]);
-    words.extend(constant(MPRV_BIT, MPRV));
-    words.extend(constant(VALUE, 0x1800));
-    words.push(csr(3, 0, MSTATUS, VALUE));
-    let previous = if way.mode == Mode::S { 0x800 } else { 0 };
+    words.extend(constant(MPRV_BIT, MPRV as i32));
+    words.extend(constant(VALUE, MPP as i32));
+    words.push(csr(3, 0, address::MSTATUS, VALUE));
+    let previous = if way.mode == Mode::S {
+        1 << MPP_SHIFT
+    } else {
+        0
+    };
     words.extend(constant(VALUE, previous));
-    words.push(csr(2, 0, MSTATUS, VALUE));
+    words.push(csr(2, 0, address::MSTATUS, VALUE));
     let at = START + 4 * words.len() as u64;
     words.extend(relative(ADDRESS, at, way.run_at(CODE)));
     if way.mode == Mode::M {
         words.push(i_type(JALR, 0, 0, ADDRESS, 0));
     } else {
-        words.extend([csr_write(0x341, ADDRESS), MRET]);
+        words.extend([csr_write(address::MEPC, ADDRESS), MRET]);
     }
     words
 }
@@ -299,7 +299,7 @@ impl Writer {
     fn turn(&mut self) {
         if self.way.turns {
             self.words.push(r_type(OP, 4, 0, TURN, TURN, SATP));
-            self.words.push(csr_write(0x180, TURN));
+            self.words.push(csr_write(address::SATP, TURN));
         }
     }
 
@@ -338,8 +338,8 @@ impl Writer {
             Place::Behind => (vec![first(), first(), NOP, load, turn, store], 0),
         };
         if self.way.by_mprv() {
-            words.insert(0, csr(2, 0, MSTATUS, MPRV_BIT));
-            words.push(csr(3, 0, MSTATUS, MPRV_BIT));
+            words.insert(0, csr(2, 0, address::MSTATUS, MPRV_BIT));
+            words.push(csr(3, 0, address::MSTATUS, MPRV_BIT));
             site += 1;
         }
         (words, site)
@@ -368,7 +368,7 @@ impl Writer {
         let by_mprv = |funct3| {
             self.way
                 .by_mprv()
-                .then(|| csr(funct3, 0, MSTATUS, MPRV_BIT))
+                .then(|| csr(funct3, 0, address::MSTATUS, MPRV_BIT))
         };
         let [on, off] = [2, 3].map(by_mprv);
         self.words.extend(on);

@@ -1,5 +1,7 @@
 //! What the tests share: a hart with memory and map to step, map entries, and an encoder of words.
 //!
+//! Bits of CSRs and of leaves, and words, stand here again, as the manuals have them: a test by the simulator's own would agree with any.
+//!
 //! Each test file uses a part of it, hence the allowance for what one of them leaves unused.
 #![allow(dead_code)]
 

@@ -1,4 +1,5 @@
-//! Seeded random numbers (splitmix64). Each case has its own stream, so that it can be made again without the others.
+//! Seeded random numbers (splitmix64), and the choices that are made with them. What is made has a stream of its own, so that it can be made
+//! again without the others.
 
 pub struct Random {
     state: u64,
@@ -13,6 +14,10 @@ fn mixed(mut word: u64) -> u64 {
 }
 
 impl Random {
+    pub fn new(state: u64) -> Random {
+        Random { state }
+    }
+
     /// The stream of case `number` of `seed`; `kind` keeps steps and runs apart.
     pub fn of(seed: u64, kind: u64, number: u64) -> Random {
         let start = mixed(seed.wrapping_mul(STRIDE) ^ mixed(kind.wrapping_add(STRIDE)));
@@ -35,6 +40,11 @@ impl Random {
         self.below(100) < percent
     }
 
+    /// True once in `times`.
+    pub fn once_in(&mut self, times: u64) -> bool {
+        self.below(times) == 0
+    }
+
     pub fn pick<T: Copy>(&mut self, from: &[T]) -> T {
         from[self.below(from.len() as u64) as usize]
     }
@@ -52,6 +62,19 @@ impl Random {
 #[cfg(test)]
 mod tests {
     use super::Random;
+
+    /// The first numbers of splitmix64 from 0, as its authors' program gives them.
+    #[test]
+    fn it_is_splitmix64() {
+        let mut random = Random::new(0);
+        let drawn = [(); 3].map(|()| random.word());
+        let theirs = [
+            0xE220_A839_7B1D_CDAF,
+            0x6E78_9E6A_A1B9_65F4,
+            0x06C4_5D18_8009_454F,
+        ];
+        assert_eq!(drawn, theirs);
+    }
 
     #[test]
     fn a_stream_depends_on_seed_kind_and_number() {
