@@ -145,7 +145,7 @@ fn plain(k: Kind, w: Width, t: Virtual, len: u64) -> Place
     inside(k, w, len, Physical(t.0), t)
 }
 
-// The nine steps for a fetch, which is not masked and always has the current mode: a step the slow path makes one, and so does a window. Measured
+// The nine steps for a fetch, which is not masked and always has the current mode: a step by the slow path makes one, and so does a window. Measured
 // (docs/DECISIONS.md): without it a step of the CSR and trap row takes 10 machine instructions more.
 pub fn fetch(c: Control, a: Virtual, map: &[u64], mem: &[u8]) -> Place
     requires { ⌜ length (now mem) ≤ 2 ^ 20 ⌝ }

@@ -43,7 +43,7 @@ pub fn plain(w: u32) -> Instruction
     }
 }
 
-// The instruction that a word names. SYSTEM stands apart: most of what goes the slow path is there, and `plain`, which the fast path calls too, is too
+// The instruction that a word names. SYSTEM stands apart: most of what takes the slow path is there, and `plain`, which the fast path calls too, is too
 // large to be compiled into both (docs/SPEED.md).
 pub fn decode(w: u32) -> Instruction
     ensures { λ r. ⌜ r ≡ decodeOf w ⌝ }

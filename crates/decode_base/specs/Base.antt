@@ -1,4 +1,5 @@
--- RV64I: what a word of each major opcode names, by its fields, as the manual's instruction listings have it. Rules 3.4 to 3.14 of docs/HART.md.
+-- RV64I, M, and what is taken from Zbb: what a word of each major opcode names, by its fields, as the manual's instruction listings have it.
+-- Rules 3.4 to 3.14 of docs/HART.md.
 use mathlib.Core.Bool.{true, false}
 use Prim.Native.Nat.{ℕ, _+_, _*_, _/_, _%_}
 use Rattle.word.specs.Choice.{Table, _⇒_¦_, otherwise, look}

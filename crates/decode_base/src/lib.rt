@@ -1,4 +1,4 @@
-// RV64I: one function for each major opcode, by the tables of the manual's chapter of instruction listings.
+// RV64I, M, and what is taken from Zbb: one function for each major opcode, by the tables of the manual's chapter of instruction listings.
 // A key is written as the manual prints it: funct7 before funct3.
 use isa::Access;
 use isa::Condition;

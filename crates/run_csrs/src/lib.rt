@@ -1,5 +1,5 @@
 // A quick way for the CSR instructions that a trap handler lives on: CSRRW, CSRRS and CSRRC on scratch, epc, cause and tval, of M and of S, done
-// in place on a hart's registers and words. The whole way passes through three enums and six jumps, and a handler's few instructions are most of a
+// in place on a hart's registers and words. The slow path passes through three enums and six jumps, and a handler's few instructions are most of a
 // trap's cost. Any other word is left undone and changes nothing: it takes the slow path, by `step_execute::plan`.
 //
 // Its own crate, since it is a second way to the same effects: the definitions are those of `step_meaning` and `csr_words`, and nothing here adds to them.

@@ -2,7 +2,7 @@
 // are. What is known of the word at an address stands in a memo of 4,096 entries, by the address; a hit asks for nothing but the address. A store
 // into a frame that a word was taken from empties the entries of its own words.
 //
-// The memo and the remembered pages are locals of `run_fast`, which has one setting: where that changes it has ended, and what was remembered is gone.
+// The memo and the remembered pages are locals of `steps`, which has one setting: where that changes it has ended, and what was remembered is gone.
 use address::Virtual;
 use address_place::Place;
 use address_place::steps::fetch;

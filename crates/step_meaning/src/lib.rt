@@ -1,5 +1,5 @@
-// What a step's instruction does, as definitions and their laws: no function stands here. Two ways to it stand above, the whole one
-// (`step_execute`) and the quick one (`run_quick`, `run_csrs`), and neither has to wait for the other to be proved.
+// What a step's instruction does, as definitions and their laws: no function stands here. The ways to it stand above, the slow path
+// (`step_execute`), the quick way (`run_quick`, `run_csrs`) and the fast path (`run_form`), and none has to wait for another to be proved.
 
 use csr_setting::Setting;
 

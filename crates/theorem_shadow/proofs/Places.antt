@@ -1,5 +1,5 @@
 -- Two laws of places that the promise rests on: where a push may store, a pop-check may read; and an ordinary store stays beside every
--- byte of a shadow page. Both go by what a place says of its access (place/proofs/Reach.antt).
+-- byte of a shadow page. Both go by what a place says of its access (crates/address_place/proofs/Reach.antt).
 -- Assumes nothing.
 use mathlib.Core.Path.{_≡_, refl, sym, _∙_, ap}
 use mathlib.Core.Bool.{true, false, true≢false}

@@ -1,8 +1,7 @@
 //! Which way the proved run takes each step of a call (docs/SPEED.md), to count what the cases reach: no answer depends on it.
 //!
-//! The first steps go the quick way, then the fast path remembers decoded words and pages as long as it is not left. What neither does goes the
-//! slow way; behind it the quick way comes first again, unless the fast path had gone far and the setting is the same. Here the first steps are
-//! counted anew behind each slow step; the run counts them over slow steps, and so begins the fast path as early or earlier.
+//! A run's first steps go the short way: quick, and by the slow path where the quick way leaves one. Then come the fast path and the short way by
+//! turns: behind a long stay on the fast path the short way takes the one step that was left, behind a short one as many as at the beginning.
 
 use crate::again::Step;
 use crate::simulator::by_second;
@@ -22,14 +21,14 @@ pub enum Way {
     Slow,
 }
 
-/// The way of the next step, and how many steps were taken on it.
+/// Where a run stands.
 #[derive(Clone, Copy, Debug)]
 pub struct Ways {
-    way: Way,
+    /// So many steps still go the short way; then comes the fast path.
+    short: u64,
+    /// How many steps were taken on the fast path since it was begun.
     taken: u64,
-    /// Whether the fast path was taken up again at once: when it is left for the second time it counts as short.
-    again: bool,
-    /// How often the fast path was begun, and how often at once behind a slow step.
+    /// How often the fast path was begun, and how often behind a single step.
     pub stays: u64,
     pub at_once: u64,
 }
@@ -37,9 +36,8 @@ pub struct Ways {
 impl Default for Ways {
     fn default() -> Ways {
         Ways {
-            way: Way::Quick,
+            short: FIRST,
             taken: 0,
-            again: false,
             stays: 0,
             at_once: 0,
         }
@@ -49,40 +47,32 @@ impl Default for Ways {
 impl Ways {
     /// Whether the next step is tried on the fast path.
     pub fn is_fast(&self) -> bool {
-        self.way == Way::Fast
+        self.short == 0
     }
 
     /// The way of a step that was taken.
     pub fn next(&mut self, step: &Step) -> Way {
-        let does = step.word.is_some_and(|word| match self.way {
-            Way::Quick => step.before.rest[ELP] == 0 && quick_does(step, word),
-            _ => fast_does(step, word),
-        });
-        if !does {
-            self.leave(step);
-            return Way::Slow;
+        let straight = step.before.rest[ELP] == 0;
+        let does = |way: fn(&Step, u32) -> bool| {
+            straight && step.word.is_some_and(|word| way(step, word))
+        };
+        if self.is_fast() && does(fast_does) {
+            self.taken += 1;
+            return Way::Fast;
         }
-        let way = self.way;
-        self.taken += 1;
-        if way == Way::Quick && self.taken == FIRST {
-            self.begin(false);
+        let single = self.is_fast() && self.taken > FAR;
+        if self.is_fast() {
+            self.short = if single { 1 } else { FIRST };
         }
-        way
-    }
-
-    fn begin(&mut self, again: bool) {
-        (self.way, self.taken, self.again) = (Way::Fast, 0, again);
-        self.stays += 1;
-        self.at_once += u64::from(again);
-    }
-
-    fn leave(&mut self, step: &Step) {
-        let far = self.is_fast() && !self.again && self.taken > FAR;
-        let switched = step.word.is_some_and(switches);
-        if far && !switched && step.after.rest[ELP] == 0 {
-            self.begin(true);
-        } else {
-            (self.way, self.taken) = (Way::Quick, 0);
+        self.short -= 1;
+        if self.is_fast() {
+            self.taken = 0;
+            self.stays += 1;
+            self.at_once += u64::from(single);
+        }
+        match does(quick_does) {
+            true => Way::Quick,
+            false => Way::Slow,
         }
     }
 }
@@ -124,16 +114,4 @@ pub fn fast_does(step: &Step, word: u32) -> bool {
             | family::MOP_RR
     );
     more && !step.answer.trapped || quick_does(step, word)
-}
-
-/// Whether a word may change the setting: a return, or a CSR instruction that writes one of its words.
-fn switches(word: u32) -> bool {
-    const CSRS: [u16; 6] = [SSTATUS, SENVCFG, SATP, MSTATUS, MENVCFG, MSECCFG];
-    match second::family(word) {
-        family::SRET | family::MRET => true,
-        family::CSR => {
-            CSRS.contains(&((word >> 20) as u16)) && (word >> 12 & 3 == 1 || word >> 15 & 31 != 0)
-        }
-        _ => false,
-    }
 }

@@ -55,7 +55,7 @@ module _ (g : tie.After-glide Inv-loop μ-loop) where
       let l = loop .loop in
       joined _ _ (l .left) _ (l .from) (hart (l .x) (l .w)) glided (l .mem) (g .glide .last .1 .1 .1 .1 .0) _ (l .inv .2) (g .glide .ensures .0)
 
--- after a step the slow path: the same, and how the run goes on or ends
+-- after a step by the slow path: the same, and how the run goes on or ends
 module _ (o : tie.After-one Inv-loop μ-loop) where
   abbrev before : tie.After-glide Inv-loop μ-loop
   before = o .before .before .before .before .before .before .before
