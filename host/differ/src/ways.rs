@@ -53,9 +53,8 @@ impl Ways {
     /// The way of a step that was taken.
     pub fn next(&mut self, step: &Step) -> Way {
         let straight = step.before.rest[ELP] == 0;
-        let does = |way: fn(&Step, u32) -> bool| {
-            straight && step.word.is_some_and(|word| way(step, word))
-        };
+        let does =
+            |way: fn(&Step, u32) -> bool| straight && step.word.is_some_and(|word| way(step, word));
         if self.is_fast() && does(fast_does) {
             self.taken += 1;
             return Way::Fast;
