@@ -1,4 +1,4 @@
-//! Loading Intel HEX (request A7): texts of the largest memory, by the proved loader and by the second reader. A text is loaded again
+//! Loading Intel HEX (chapter 11): texts of the largest memory, by the proved loader and by the second reader. A text is loaded again
 //! and again into one memory, which is compared with the image at the end.
 
 use crate::speed;

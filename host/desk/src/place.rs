@@ -38,7 +38,7 @@ pub struct Path {
     pub sv39: bool,
     /// The address after masking.
     pub transformed: u64,
-    /// Where masking is lifted (request A2) and would have given another address: that one.
+    /// Where masking is lifted (rule 7.2 e) and would have given another address: that one.
     pub lifted: Option<u64>,
     pub entry: Option<Entry>,
     pub end: Result<u64, Refused>,
@@ -129,7 +129,7 @@ mod tests {
     use formats::csr::field::{MPP_SHIFT, MPRV, MXR, PMM, SSE, SV39};
     use sporhulma::word;
 
-    /// Request A2: the address as transformed, and what masking would have made of it where it is lifted.
+    /// Rule 7.2 e: the address as transformed, and what masking would have made of it where it is lifted.
     #[test]
     #[rustfmt::skip]
     fn masking_is_lifted_in_m_by_mprv_with_mxr() {

@@ -106,7 +106,7 @@ fn monitor(mstatus: &str, address: &str) -> String {
     format!("--memory 16K --map user.map --sv39 --masking 7 --csr mstatus={mstatus} --x a1={address} --steps 1")
 }
 
-/// Request A2: in M with MPRV and MXR both set the tag stays, whatever MPP is.
+/// Rule 7.2 e: in M with MPRV and MXR both set the tag stays, whatever MPP is.
 #[test]
 fn a_tag_that_is_not_masked_under_mprv_with_mxr() {
     says(

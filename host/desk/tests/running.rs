@@ -46,7 +46,7 @@ fn a_trace_shows_what_each_step_changes() {
     );
 }
 
-/// Request A3 in user mode: a division by zero has its result, and traps as little as the others.
+/// M in user mode: a division by zero has its result, and traps as little as the others.
 #[test]
 fn a_trace_of_products_and_counts() {
     let desk = Desk::new("products");

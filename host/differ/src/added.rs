@@ -1,4 +1,4 @@
-//! Request A3 in the mix: the instructions of M and Zbb that were carried out and at which corners, and their neighbours
+//! M and Zbb in the mix: the instructions that were carried out and at which corners, and their neighbours
 //! that are illegal.
 
 use crate::operands::{corner, count, dirty, CORNERS};

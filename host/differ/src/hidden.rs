@@ -1,4 +1,4 @@
-//! Pairs of memories for request A13: one user's hart and map, and two memories that differ in every byte of each frame
+//! Pairs of memories for rules 13.10 to 13.15: one user's hart and map, and two memories that differ in every byte of each frame
 //! that no valid entry with its U bit names. Pair `number` of a seed is made without the pairs before it.
 
 use crate::case::{Call, Case, BASE, PAGE};
@@ -263,7 +263,7 @@ mod tests {
     use super::*;
     use crate::simulator::{Second, Simulator};
 
-    /// What A13 asks of the two runs, but of those that are refused: there any hart will do.
+    /// What these rules ask of the two runs, but of those that are refused: there any hart will do.
     #[test]
     fn a_pair_is_what_the_request_speaks_of() {
         let mut made = Made::default();

@@ -1,4 +1,4 @@
-//! Request A2 in the mix: the loads, stores and swaps that M makes with MPRV and MXR both set, where no bit is masked.
+//! Rule 7.2 e in the mix: the loads, stores and swaps that M makes with MPRV and MXR both set, where no bit is masked.
 
 use crate::simulator::by_second;
 use crate::state::SV39;

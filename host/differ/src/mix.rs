@@ -58,10 +58,10 @@ pub struct Mix {
     run_lengths: [u64; 5],
     run_steps: u64,
     other_causes: u64,
-    /// Request A2: of steps, and how many calls of runs start where it lifts masking.
+    /// Rule 7.2 e: of steps, and how many calls of runs start where it lifts masking.
     lifted: Lifted,
     run_lifted: u64,
-    /// Request A3: of steps, and of those of runs.
+    /// M and Zbb: of steps, and of those of runs.
     added: Added,
     run_added: Added,
     memory: Vec<u8>,
@@ -142,7 +142,7 @@ impl Mix {
     }
 
     /// What a reader of the mix would miss, a sentence each. `runs` tells whether runs were made, which alone give refusal 4
-    /// and have their own demands for request A3.
+    /// and have their own demands for M and Zbb.
     pub fn complaints(&self, runs: bool) -> Vec<String> {
         let mut complaints = Vec::new();
         for (at, name) in FAMILIES.iter().enumerate() {

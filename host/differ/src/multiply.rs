@@ -1,4 +1,4 @@
-//! The instructions of request A3 in steps and in programs, with operands at the corners, and the neighbours in the same
+//! The instructions of M and Zbb in steps and in programs, with operands at the corners, and the neighbours in the same
 //! opcodes that the hart does not have.
 
 use crate::maker::Maker;

@@ -1,4 +1,4 @@
-//! Which frames of memory a user's program may reach at all (request A13): those that a valid entry with its U bit names.
+//! Which frames of memory a user's program may reach at all (rules 13.10 to 13.15): those that a valid entry with its U bit names.
 //!
 //! The second simulator says which leaves are pages (docs/HART.md, 7.5), and the tests below hold it to that.
 

@@ -1,4 +1,4 @@
-//! Operands for request A3: the corners of 64 bits and of the 32 that a word form looks at, and numbers whose count is
+//! Operands for M and Zbb: the corners of 64 bits and of the 32 that a word form looks at, and numbers whose count is
 //! drawn.
 
 use formats::extensions::Encoding;

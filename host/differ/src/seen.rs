@@ -1,4 +1,4 @@
-//! What the pairs of request A13 were, counted step by step, so that a test can demand that nothing is missing.
+//! What the pairs of rules 13.10 to 13.15 were, counted step by step, so that a test can demand that nothing is missing.
 //!
 //! A pair's steps are taken again one by one with the second simulator, on the first memory. The counts decide about no
 //! difference, only whether the test has seen enough.

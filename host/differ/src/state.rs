@@ -14,7 +14,7 @@ use sporhulma::word::*;
 /// UXL and SXL as every mstatus word holds them.
 pub const XLENS: u64 = sporhulma::MSTATUS_CLEAR;
 
-/// Of a hundred cases so many are made for request A2.
+/// Of a hundred cases so many are made for rule 7.2 e.
 pub const LIFTED: u64 = 11;
 
 /// What a case's state means for the next instruction: only to aim at what matters, no answer depends on it.
@@ -25,7 +25,7 @@ pub struct View {
     pub sv39: bool,
     /// Of fetches; its bits are those that the mode's PMM would mask in the fetch address if it were masked.
     pub fetch: Regime,
-    /// Of loads, stores and swaps. They are spared by request A2: in M with MPRV and MXR both set.
+    /// Of loads, stores and swaps. They are spared by rule 7.2 e: in M with MPRV and MXR both set.
     pub data: Regime,
     pub pads: bool,
 }
@@ -77,7 +77,7 @@ pub fn settings(random: &mut Random, case: &mut Case) {
     rest[ELP] = u64::from(random.chance(15));
 }
 
-/// Turns the settings into those where request A2 lifts masking, with any MPP: by chance few harts have all of it.
+/// Turns the settings into those where rule 7.2 e lifts masking, with any MPP: by chance few harts have all of it.
 pub fn lifting(random: &mut Random, case: &mut Case) {
     let rest = &mut case.hart.rest;
     rest[MODE] = 3;

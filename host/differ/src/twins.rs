@@ -1,4 +1,4 @@
-//! Request A13 on two simulators: each carries out the calls of a pair on both memories, and what one of them leaves of
+//! Rules 13.10 to 13.15 on two simulators: each carries out the calls of a pair on both memories, and what one of them leaves of
 //! the two is compared. Beside that the simulators are compared with each other, as everywhere.
 
 use crate::case::{Call, BASE, PAGE};
@@ -79,7 +79,7 @@ impl Twins {
     }
 }
 
-/// What breaks request A13, a line each: `before` are the two memories, `after` what one simulator left of each.
+/// What breaks rules 13.10 to 13.15, a line each: `before` are the two memories, `after` what one simulator left of each.
 pub fn leaks(before: [&[u8]; 2], after: [&Side; 2], named: &[bool]) -> Vec<String> {
     let [one, other] = after;
     let mut lines = Vec::new();

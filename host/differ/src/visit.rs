@@ -1,4 +1,4 @@
-//! Programs of a user who looks around (request A13): ordinary work on pages of its own, and in the middle of it visits
+//! Programs of a user who looks around (rules 13.10 to 13.15): ordinary work on pages of its own, and in the middle of it visits
 //! to any page of the map, by every kind of access.
 //!
 //! x19 to x27 hold addresses in the middle of pages of the map, and x16 what a frame that is not the user's may hold all

@@ -1,6 +1,6 @@
-//! Wrong readings of request A7, each planted in a plain reader: the texts and the comparison must find it.
+//! Wrong readings of chapter 11, each planted in a plain reader: the texts and the comparison must find it.
 //!
-//! The plain reader goes by lines, as the request speaks. Without a slip it is a third reader and must agree with `second`.
+//! The plain reader goes by lines, as chapter 11 speaks. Without a slip it is a third reader and must agree with `second`.
 
 use differ::case::BASE;
 use differ::hex::make::Sort;

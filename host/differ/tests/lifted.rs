@@ -1,4 +1,4 @@
-//! Request A2's nearest neighbours, each planted in a wrapper of `second`: the generator and the comparison must find it.
+//! Rule 7.2 e's nearest neighbours, each planted in a wrapper of `second`: the generator and the comparison must find it.
 //!
 //! They are planted where the word is handed in, so that the wrapper knows it.
 
@@ -17,7 +17,7 @@ const STEPS: u64 = 50_000;
 /// When masking is lifted: by the hart's words, what they mean, and the kind of access.
 type Rule = fn(&[u64; 20], &View, Kind) -> bool;
 
-/// `second` with another rule in the place of A2's.
+/// `second` with another rule in the place of 7.2 e.
 struct Lifts(Rule);
 
 impl Simulator for Lifts {
@@ -89,7 +89,7 @@ fn found(impostor: impl Simulator) -> Failure {
     panic!("it was not found within {STEPS} steps");
 }
 
-/// The mode of the first case on which this rule and A2's differ, and which of MPRV and MXR are set there.
+/// The mode of the first case on which this rule and 7.2 e differ, and which of MPRV and MXR are set there.
 fn met(rule: Rule) -> (u64, bool, bool) {
     let rest = found(Lifts(rule)).case.hart.rest;
     let set = |bit| rest[MSTATUS] & bit != 0;
@@ -193,7 +193,7 @@ fn tval_masked_although_the_address_is_not() {
     assert!(differences[2].starts_with("mtval:"));
 }
 
-/// With A2's own rule the wrapper is `second`: what the tests above find is the rule and nothing else.
+/// With rule 7.2 e itself the wrapper is `second`: what the tests above find is the rule and nothing else.
 #[test]
 fn the_rule_itself_no_difference() {
     let mut soak = Soak::new(Lifts(|_, view, _| view.data.spared), Second, 1);

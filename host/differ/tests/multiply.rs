@@ -1,4 +1,4 @@
-//! Request A3's likely slips, each planted in a wrapper of `second`: the steps must find it, and the runs too. And that each
+//! Likely slips in M and Zbb, each planted in a wrapper of `second`: the steps must find it, and the runs too. And that each
 //! word beside those of M and Zbb that the hart does not have is found where it is legal.
 
 use differ::again::word_at;
@@ -37,7 +37,7 @@ impl Slip {
     }
 }
 
-/// The word of a step and the instruction of request A3 that it is.
+/// The word of a step and the instruction of M or Zbb that it is.
 fn instruction(
     call: Call,
     hart: &Hart,

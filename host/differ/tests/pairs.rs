@@ -1,4 +1,4 @@
-//! Request A13's leaks, each planted in a wrapper of `second`: the pairs must find it.
+//! Leaks that rules 13.10 to 13.15 exclude, each planted in a wrapper of `second`: the pairs must find it.
 //!
 //! The same wrapper stands on both sides, so that the two simulators agree and only the comparison between the two
 //! memories can find anything. A leak is planted where a step has trapped: there the map kept the user out.

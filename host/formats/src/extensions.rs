@@ -1,4 +1,4 @@
-//! The instructions of M and Zbb that the hart has (request A3), and those of Zba, Zbb, Zbc and Zbs that it does not have and that
+//! The instructions of M and Zbb that the hart has, and those of Zba, Zbb, Zbc and Zbs that it does not have and that
 //! stand beside them in the same opcodes.
 
 use crate::{OP, OP_32, OP_IMM, OP_IMM_32};
@@ -135,7 +135,7 @@ impl Encoding {
     }
 }
 
-/// The instructions that request A3 added.
+/// The instructions of M and Zbb that the hart has.
 pub fn all() -> impl Iterator<Item = &'static Encoding> {
     M.iter().chain(&COUNTS).chain(&MIN_MAX)
 }

@@ -1,7 +1,7 @@
 //! Intel HEX as it is written: a record, and a whole image. `desk hex` writes with it, and differ, bench and outside make
 //! their texts with it. The second reader does not use it.
 
-/// The types of records that request A7 names.
+/// The types of records that chapter 11 of docs/HART.md names.
 pub const DATA: u8 = 0;
 pub const END: u8 = 1;
 pub const UPPER: u8 = 4;

@@ -308,7 +308,7 @@ fn link(
     Ok(())
 }
 
-/// What these tools write in another way than request A7 reads: below 1 MiB objcopy writes type 02,
+/// What these tools write in another way than chapter 11 reads: below 1 MiB objcopy writes type 02,
 /// and srec_cat can end lines in CR.
 fn refused(report: &mut Report, image: &Image) -> Result<(), String> {
     let made = path("refused.hex")?;

@@ -1,4 +1,4 @@
-//! Intel HEX (request A7): the whole text is judged, and only then its bytes are stored.
+//! Intel HEX (chapter 11 of docs/HART.md): the whole text is judged, and only then its bytes are stored.
 //!
 //! A line is a record: a colon and pairs of hex digits, which are the number of data bytes, a 16-bit offset, a type, the data
 //! and a checksum. A record says itself how long it is, so nobody looks for the end of a line: where it ends elsewhere, a pair

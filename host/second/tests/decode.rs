@@ -77,7 +77,7 @@ const ENCODINGS: [(u32, u32, u64); 117] = [
     // MOP.R: 1-00--0111-- and MOP.RR: 1-00--1, with the free bits of n left out.
     (0xB3C0_707F, 0x81C0_4073, 22),
     (0xB200_707F, 0x8200_4073, 23),
-    // Request A3: M in OP; MIN, MINU, MAX, MAXU; M in OP-32; CLZ, CTZ, CPOP and their W forms.
+    // M and Zbb: M in OP; MIN, MINU, MAX, MAXU; M in OP-32; CLZ, CTZ, CPOP and their W forms.
     (0xFE00_707F, 0x0200_0033, 10),
     (0xFE00_707F, 0x0200_1033, 10),
     (0xFE00_707F, 0x0200_2033, 10),

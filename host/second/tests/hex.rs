@@ -1,4 +1,4 @@
-//! Request A7, sentence by sentence: each with what it lets pass and the nearest text that it does not.
+//! Chapter 11, sentence by sentence: each with what it lets pass and the nearest text that it does not.
 
 use second::{load_hex, Loaded};
 

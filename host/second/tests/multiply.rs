@@ -1,4 +1,4 @@
-//! Request A3: M and what the hart has of Zbb, at the corners by hand and elsewhere by the laws of arithmetic.
+//! M and what the hart has of Zbb, at the corners by hand and elsewhere by the laws of arithmetic.
 
 mod common;
 use common::*;

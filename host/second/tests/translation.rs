@@ -113,7 +113,7 @@ fn monitor(mpp: u64, more: u64) -> World {
     w
 }
 
-/// Request A2: with MXR set too no bit is masked, so a tag is not canonical, and tval is the whole address.
+/// Rule 7.2 e: with MXR set too no bit is masked, so a tag is not canonical, and tval is the whole address.
 #[test]
 fn step_2_masks_nothing_under_mprv_with_mxr() {
     for mpp in [0, MPP_S] {

@@ -103,7 +103,7 @@ pub fn instruction(random: &mut Random) -> u32 {
 }
 
 /// What came up: causes, of software checks with their tval, the rules that refused, and of those accesses whose masking
-/// request A2 lifts the first words (load, store or shadow).
+/// rule 7.2 e lifts the first words (load, store or shadow).
 #[derive(Default)]
 struct Seen {
     traps: BTreeSet<(u64, u64)>,

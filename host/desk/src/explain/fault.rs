@@ -63,7 +63,7 @@ fn rows(path: &Path, symbols: &Symbols) -> Rows {
     rows
 }
 
-/// Why the address kept its upper bits (request A2): an engineer who set PMM expects them to be gone.
+/// Why the address kept its upper bits (rule 7.2 e): an engineer who set PMM expects them to be gone.
 fn unmasked(masked: u64) -> (&'static str, String) {
     let why = format!(
         "off for this access: mstatus has MPRV and MXR both set (masked, it would be at {masked:#x})"

@@ -1,5 +1,5 @@
 //! `desk frames`: which frames of memory a user program can name by a page map, and which are out of its reach
-//! (request A13; docs/ISOLATION.md has the theorem). `desk run --frames` tells the same of its own start.
+//! (rules 13.10 to 13.15; docs/ISOLATION.md has the theorem). `desk run --frames` tells the same of its own start.
 
 mod json;
 mod scope;

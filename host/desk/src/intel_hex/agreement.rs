@@ -1,5 +1,5 @@
 //! The desk's words about a refused text against the proved loader: the texts of the differential test, good, damaged in every
-//! way that request A7 names and changed at random. Each refusal must be explained, at the line that the loader names.
+//! way that chapter 11 names and changed at random. Each refusal must be explained, at the line that the loader names.
 
 use super::wrong::first;
 use differ::hex::make::{make, Sort};

@@ -1,4 +1,4 @@
-//! Intel HEX at the desk (request A7): telling a text from a raw image, loading it by the proved call, and saying in words why
+//! Intel HEX at the desk (chapter 11): telling a text from a raw image, loading it by the proved call, and saying in words why
 //! one is refused. `desk hex` writes such a text.
 
 mod line;

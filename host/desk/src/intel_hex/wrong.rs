@@ -1,4 +1,4 @@
-//! Why a text in Intel HEX is refused, in words: a plain second reading of request A7, which is told only where it comes to
+//! Why a text in Intel HEX is refused, in words: a plain second reading of chapter 11, which is told only where it comes to
 //! the line that the proved loader names.
 
 use super::line::{data, record, Record};

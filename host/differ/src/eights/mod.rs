@@ -1,4 +1,4 @@
-//! Request A1, instructions as eight numbers: all words through a read and a write, and eights made at random, near those that can be
+//! Chapter 12, instructions as eight numbers: all words through a read and a write, and eights made at random, near those that can be
 //! written; each beside the second simulator's own reader and writer.
 //!
 //! `shape` has which eights can be written, from include/sporhulma.h and the manuals; `make` makes eights near them; `soak` makes many.

@@ -1,4 +1,4 @@
-//! One thing wrong in a text that was good, in every way that request A7 names: each with the line that must be named.
+//! One thing wrong in a text that was good, in every way that chapter 11 names: each with the line that must be named.
 
 use super::good::{Line, Text, CR_LF, LF};
 use crate::case::BASE;

@@ -1,4 +1,4 @@
-//! Request A7 on two readers of Intel HEX: random texts and memories, and what each reader answers and leaves of memory.
+//! Chapter 11 on two readers of Intel HEX: random texts and memories, and what each reader answers and leaves of memory.
 //!
 //! `good` makes texts that must be loaded, `damage` makes one of them wrong in a way that has a name, `mutate` changes bytes
 //! at random, and `make` chooses among them. A text that is good or damaged comes with the answer that it must get, so that

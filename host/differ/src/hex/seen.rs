@@ -1,4 +1,4 @@
-//! What the texts of request A7 were, counted, so that a test can demand that nothing is missing.
+//! What the texts of chapter 11 were, counted, so that a test can demand that nothing is missing.
 
 use super::damage::DAMAGES;
 use super::good::FEATURES;
