@@ -100,14 +100,24 @@ fn few(a: u64, b: u64) -> u64
     b
 }
 
-// How many steps go the short way after so many on the fast path. Where those were many it may be tried again behind the one that it left.
-fn pause(steps: u64) -> u64
+// The most steps that are taken the short way between two turns of the fast path.
+const MOST: u64 = 1048576;
+
+// How many steps go the short way after so many on the fast path. Where those were many, the one that it left; else twice as many as the last time,
+// so that a program that leaves the fast path again and again, at each landing pad, say, does not clear the memo for nothing.
+fn pause(steps: u64, wait: u64) -> u64
     ensures { λ r. ⌜ 0 < r ⌝ }
 {
     if FAR < steps {
         return 1;
     }
-    FIRST
+    if wait < FIRST {
+        return FIRST;
+    }
+    if wait < MOST {
+        return wait * 2;
+    }
+    MOST
 }
 
 // A run of many steps, on the fast path as long as it goes. That is called from two places, so that the compiler leaves its memo out of the frame of
@@ -122,8 +132,10 @@ fn long(x: &mut [u64; 32], w: &mut [u64; COUNT], mem: &mut [u8], map: &[u64], bu
 {
     let mut left = run_fast::fast(x, w, mem, map, budget);
     let mut steps = budget - left;
+    let mut wait = 0;
     while 0 < left {
-        let n = few(left, pause(steps));
+        wait = pause(steps, wait);
+        let n = few(left, wait);
         let t = short(x, w, Source::Fetch, mem, map, n);
         if t.trapped {
             return report(budget - left + t.count, true, t.cause);

@@ -1,7 +1,8 @@
 //! Which way the proved run takes each step of a call (docs/SPEED.md), to count what the cases reach: no answer depends on it.
 //!
 //! A run's first steps go the short way: quick, and by the slow path where the quick way leaves one. Then come the fast path and the short way by
-//! turns: behind a long stay on the fast path the short way takes the one step that was left, behind a short one as many as at the beginning.
+//! turns: behind a long stay on the fast path the short way takes the one step that was left, behind a short one as many as at the beginning, and
+//! twice as many each further time.
 
 use crate::again::Step;
 use crate::simulator::by_second;
@@ -13,6 +14,8 @@ use sporhulma::{family, Hart};
 pub const FIRST: u64 = 1024;
 /// More steps than these are far.
 pub const FAR: u64 = 32_768;
+/// No more steps than these go the short way between two turns of the fast path.
+const MOST: u64 = 1_048_576;
 
 #[derive(Clone, Copy, PartialEq, Eq, Debug)]
 pub enum Way {
@@ -26,6 +29,8 @@ pub enum Way {
 pub struct Ways {
     /// So many steps still go the short way; then comes the fast path.
     short: u64,
+    /// So many it were the last time, behind a turn of the fast path.
+    wait: u64,
     /// How many steps were taken on the fast path since it was begun.
     taken: u64,
     /// How often the fast path was begun, and how often behind a single step.
@@ -37,6 +42,7 @@ impl Default for Ways {
     fn default() -> Ways {
         Ways {
             short: FIRST,
+            wait: 0,
             taken: 0,
             stays: 0,
             at_once: 0,
@@ -61,7 +67,11 @@ impl Ways {
         }
         let single = self.is_fast() && self.taken > FAR;
         if self.is_fast() {
-            self.short = if single { 1 } else { FIRST };
+            self.wait = match single {
+                true => 1,
+                false => (2 * self.wait).clamp(FIRST, MOST),
+            };
+            self.short = self.wait;
         }
         self.short -= 1;
         if self.is_fast() {

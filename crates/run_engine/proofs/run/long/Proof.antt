@@ -16,11 +16,11 @@ use Rattle.run_engine.proofs.run.long.Tie as tie
 
 -- memory keeps its length, and what is left, run, gives what the first call of the fast path left
 abbrev Inv-loop : tie.InvT-loop
-Inv-loop x₀ w₀ mem₀ map budget left₀ steps₀ x w mem left steps =
+Inv-loop x₀ w₀ mem₀ map budget left₀ steps₀ wait₀ x w mem left steps wait =
     (length mem ≡ length mem₀) × Midway (runFrom Fetch left₀ (hart x₀ w₀) mem₀ map) left₀ left Fetch (hart x w) mem map
 
 abbrev μ-loop : tie.MeasureT-loop
-μ-loop x₀ w₀ mem₀ map budget left₀ steps₀ x w mem left steps = left
+μ-loop x₀ w₀ mem₀ map budget left₀ steps₀ wait₀ x w mem left steps wait = left
 
 loop-holds : tie.Need-loop-holds Inv-loop μ-loop
 loop-holds c = (refl, start _ _ _ _ _)
