@@ -3,6 +3,9 @@
 use formats::{b, i, j, r, s, JALR, LOAD, OP, OP_32, OP_IMM, OP_IMM_32, STORE};
 pub use formats::{zicsr, ECALL, MRET};
 
+/// A landing pad for every label: AUIPC of 0 to x0.
+pub const LPAD: u32 = 0x17;
+
 pub fn addi(rd: u32, rs1: u32, imm: i32) -> u32 {
     i(OP_IMM, 0, rd, rs1, imm as u64)
 }

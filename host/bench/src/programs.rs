@@ -3,7 +3,7 @@
 
 use crate::encode::*;
 use crate::{controller, filter, straight};
-use formats::csr::field::{MPP, SSE, SV39};
+use formats::csr::field::{MLPE, MPP, SSE, SV39};
 use formats::csr::{MEPC, MSCRATCH, SSCRATCH};
 use formats::leaf::{self, A, D, FRAME_SHIFT, U, V};
 pub use formats::leaf::{R, W, X};
@@ -196,6 +196,17 @@ pub fn csrs_and_traps() -> Program {
     program
 }
 
+/// In M with landing pads on: a jump through a register to a pad in every 92 steps. Neither of the two is carried out on the fast path.
+pub fn pads() -> Program {
+    let mut code = vec![LPAD];
+    code.extend((0..90).map(|k| addi(8 + k % 8, 8 + k % 8, 1)));
+    code.push(jalr(0, 6, 0));
+    let mut program = bare("jumps to landing pads, one in 92", &code);
+    program.hart.x[6] = BASE;
+    program.hart.rest[word::MSECCFG] = MLPE;
+    program
+}
+
 pub fn all() -> Vec<Program> {
     vec![
         registers(),
@@ -210,5 +221,6 @@ pub fn all() -> Vec<Program> {
         controller::in_user(),
         straight::program(),
         filter::in_short_runs(),
+        pads(),
     ]
 }
