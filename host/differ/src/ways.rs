@@ -6,7 +6,6 @@
 
 use crate::again::Step;
 use crate::simulator::by_second;
-use formats::csr::{MENVCFG, MSECCFG, MSTATUS, SATP, SENVCFG, SSTATUS};
 use sporhulma::word::{ELP, MODE};
 use sporhulma::{family, Hart};
 
