@@ -3,8 +3,8 @@
  * Link target/staticlib/libsporhulma.a, and beside it libfamily.a for sporhulma_family and libscribe.a for sporhulma_read and
  * sporhulma_write; tools/library builds them. What each call does with anything that is handed in is proved; docs/PROMISES.md states
  * it. Trusted is that the caller's pointers are what the types say: arrays of the given length, which do not overlap, and memory of
- * mem_len bytes, a map of pages_len page numbers and leaves_len leaves, and a text of text_len bytes (pointers that are not null, also where
- * a length is 0). A run of more than 1,024 steps needs some 120 KiB of stack.
+ * mem_len bytes, a map of map_len words and a text of text_len bytes (a pointer that is not null, also where the length is 0). A run of more
+ * than 1,024 steps needs some 120 KiB of stack.
  */
 #ifndef SPORHULMA_H
 #define SPORHULMA_H
@@ -50,22 +50,21 @@ enum sporhulma_answer { SPORHULMA_COUNT, SPORHULMA_TRAPPED, SPORHULMA_CAUSE };
  *   1  register 0 is not 0, pc is not a multiple of 4, mode is not 0, 1 or 3, elp is not 0 or 1, ssp is not a multiple of 8, or a
  *      CSR holds a value that no write could leave;
  *   2  mem_len is 0, not a multiple of 4,096, or over 1,048,576;
- *   3  pages_len is not leaves_len, or is over 64, or a page number is 2^27 or more, or the numbers do not strictly rise;
+ *   3  map_len is odd or over 128, or a page number is 2^27 or more, or the numbers do not strictly rise;
  *   4  (run only) budget is over 1,000,000.
- * mem's first byte has physical address 0x80000000. The page map is in two columns: pages has virtual page numbers, and leaves has at the
- * same index the page's Sv39 leaf, which may be any word. Both may be empty. */
+ * mem's first byte has physical address 0x80000000. map has two words a page: its virtual page number, then an Sv39 leaf. */
 
 /* One step, which fetches at pc. */
-uint64_t sporhulma_step(uint64_t x[32], uint64_t rest[20], uint8_t *mem, size_t mem_len, const uint32_t *pages, size_t pages_len,
-                        const uint64_t *leaves, size_t leaves_len, uint64_t answer[3]);
+uint64_t sporhulma_step(uint64_t x[32], uint64_t rest[20], uint8_t *mem, size_t mem_len, const uint64_t *map, size_t map_len,
+                        uint64_t answer[3]);
 
 /* One step with a given word, as if it had been fetched at pc. */
-uint64_t sporhulma_step_word(uint64_t x[32], uint64_t rest[20], uint8_t *mem, size_t mem_len, const uint32_t *pages, size_t pages_len,
-                             const uint64_t *leaves, size_t leaves_len, uint32_t word, uint64_t answer[3]);
+uint64_t sporhulma_step_word(uint64_t x[32], uint64_t rest[20], uint8_t *mem, size_t mem_len, const uint64_t *map, size_t map_len,
+                             uint32_t word, uint64_t answer[3]);
 
 /* Steps up to and including the first that traps, or until the budget is spent. */
-uint64_t sporhulma_run(uint64_t x[32], uint64_t rest[20], uint8_t *mem, size_t mem_len, const uint32_t *pages, size_t pages_len,
-                       const uint64_t *leaves, size_t leaves_len, uint64_t budget, uint64_t answer[3]);
+uint64_t sporhulma_run(uint64_t x[32], uint64_t rest[20], uint8_t *mem, size_t mem_len, const uint64_t *map, size_t map_len,
+                       uint64_t budget, uint64_t answer[3]);
 
 /* Indices into the answer of sporhulma_load_hex: the number of the first bad line (refusal 6), else 0; 1 where a start address was
  * given, else 0; and the start address, the last type 05's, else 0. */

@@ -12,9 +12,9 @@ use Rattle.isa.specs.declared.Mode.{Mode}
 use Rattle.address_page.specs.declared.Regime.{Regime}
 use Rattle.address_leaf.specs.Leaf.{shadow_page_of, read_only, has_right_of, valid_leaf_of}
 use Rattle.address_leaf.specs.declared.Leaf.{Leaf}
-use Rattle.address_judge.specs.Judge.{user_bit_of, off_read_only_of, own_page_of, readable, permits, accessed_dirty_of, guard, judge_of}
+use Rattle.address_judge.specs.Judge.{user_bit_of, off_read_only_of, own_page_of, readable, permits, accessed_dirty_of, decide_of, judge_of}
 use Rattle.address_judge.specs.Usual.{usual_leaf, usual_user, usual_shadow, usual_right, usual_of}
-use Rattle.address_judge.specs.declared.Verdict.TheVariants.{Granted, PageFault, AccessFault}
+use Rattle.address_judge.specs.declared.Verdict.TheVariants.{Granted}
 
 -- step 6
 user_bit_lem : (m : Mode) (sum fetch u : Bool) → usual_user m u ≡ true → user_bit_of m sum fetch u ≡ true
@@ -31,11 +31,13 @@ page r w x u d = record { v = true; r = r; w = w; x = x; u = u; a = true; d = d;
 abbrev Grants : Kind → (sse mxr : Bool) → Leaf → Type 0
 Grants k sse mxr l =
     usual_right sse k l ≡ true
-    → guard (valid_leaf_of (has_right_of l) (shadow_page_of sse l) l) PageFault
-    (guard (off_read_only_of (is_shadow_of k) (read_only l)) PageFault
-    (guard (own_page_of k (shadow_page_of sse l)) AccessFault
-    (guard (permits k (readable mxr (shadow_page_of sse l) l) l) PageFault
-    (guard (accessed_dirty_of (writes k) l) PageFault Granted))))
+    → decide_of
+    (valid_leaf_of (has_right_of l) (shadow_page_of sse l) l)
+    true
+    (off_read_only_of (is_shadow_of k) (read_only l))
+    (own_page_of k (shadow_page_of sse l))
+    (permits k (readable mxr (shadow_page_of sse l) l) l)
+    (accessed_dirty_of (writes k) l)
     ≡ Granted
 
 -- a shadow page with D

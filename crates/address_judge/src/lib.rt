@@ -3,8 +3,7 @@
 ghost use Rattle.std.specs.Prelude.{◌≡◌};
 ghost use Rattle.isa.specs.declared.Kind.TheVariants.{Fetch};
 ghost use Rattle.address_leaf.specs.Leaf.{leaf_of};
-ghost use Rattle.address_judge.specs.Judge.{user_bit_of, off_read_only_of, own_page_of, readable, permits, accessed_dirty_of, guard, judge_of};
-ghost use Rattle.address_judge.specs.declared.Verdict.TheVariants.{Granted, PageFault, AccessFault};
+ghost use Rattle.address_judge.specs.Judge.{user_bit_of, off_read_only_of, own_page_of, readable, permits, accessed_dirty_of, decide_of, judge_of};
 
 use address_leaf::{Leaf, has_right, read_only, shadow_page, valid_leaf};
 use address_page::Regime;
@@ -108,8 +107,7 @@ fn accessed_dirty(writes: bool, l: Leaf) -> bool
 
 // The tests of steps 5 to 8 in their order: the first that fails decides.
 fn decide(valid: bool, user: bool, off: bool, own: bool, permits: bool, stamped: bool) -> Verdict
-    ensures { result ≡ guard valid PageFault (guard user PageFault (guard off PageFault
-        (guard own AccessFault (guard permits PageFault (guard stamped PageFault Granted))))) }
+    ensures { result ≡ decide_of valid user off own permits stamped }
 {
     if valid {
         if user {

@@ -1,91 +1,75 @@
--- The page map, entry by entry: a turn of each loop, what lookup finds, and what an accepted map is.
+-- The page map, entry by entry: a turn of each loop, and what an accepted map is.
 -- Assumes nothing.
 use mathlib.Core.Path.{◌≡◌, refl, sym, ◌∙◌}
 use mathlib.Core.Bool.{Bool, true, false, ◌&&◌, ◌||◌, not}
 use mathlib.Core.List.{List, [], ◌∷◌}
-use Prim.Native.Nat.{ℕ, zero, suc, ◌+◌, ◌%◌, ◌^◌, ◌<◌, ◌≤◌}
+use Prim.Native.Nat.{ℕ, zero, suc, ◌+◌, ◌*◌, ◌%◌, ◌^◌, ◌<◌, ◌≤◌}
 use native.Mathlib.Numerals.{add-one}
 use native.Mathlib.Omega.{arith}
 use lib.Dec.{eqb, leb, ltb}
 use lib.ListN.{length, get_or, drop, length-drop}
 use lib.Seq.{drop-cons}
-use borrow.Author.Tests.{eq-eqb, ne_eqb, le-leb, lt-leb, lt-ltb, le-ltb, eqb-true, ltb-false, leb-false}
+use borrow.Author.Tests.{eq-eqb, ne_eqb, le-leb, lt-leb, lt-ltb, le-ltb, eqb-true, eqb-false, ltb-false, leb-false}
 use Rattle.word.proofs.Bools.{neither}
 use Rattle.word.proofs.Either.{either}
 use Rattle.word.specs.Choice.{pick}
-use Rattle.address_page.specs.Map.{MapEntry, Map, lookup_of}
-use Rattle.address_page.specs.Lent.{Lent, Columns, Interleaved, map_of, every_second, lent_map_of, any_large, strictly_rise, map_refused_of}
+use Rattle.address_page.specs.Map.{lookup_of, pages_of, any_large, rise_from, strictly_rise, map_refused_of}
 use Rattle.address_page.specs.declared.map.Found.TheVariants.{Leaf, Absent}
 
--- a list from its element i on
-one : (l : List ℕ) (i : ℕ) → i < length l → drop i l ≡ get_or l i 0 ∷ drop (i + 1) l
-one l i h = rw (add-one, drop-cons l i 0 h)
+-- the next two words
+two : (l : List ℕ) (i : ℕ) → i + 2 ≤ length l → drop i l ≡ get_or l i 0 ∷ get_or l (i + 1) 0 ∷ drop (i + 2) l
+two l i h =
+    let e : i + 2 ≡ suc (suc i) = omega arith in
+    rw (e, add-one, drop-cons l i 0 (omega arith), drop-cons l (suc i) 0 (omega arith))
 
-nothing : (l : List ℕ) → length l ≤ 0 → l ≡ []
-nothing [] h = refl
-nothing (k ∷ l) h = absurd (omega arith)
+short_lookup : (l : List ℕ) (p : ℕ) → length l < 2 → lookup_of l p ≡ Absent
+unfolding lookup_of
+short_lookup [] p h = refl
+short_lookup (k ∷ []) p h = refl
+short_lookup (k ∷ e ∷ l) p h = absurd (omega arith)
 
-past : (l : List ℕ) (i : ℕ) → length l ≤ i → drop i l ≡ []
-past l i h = nothing (drop i l) (simp length-drop (omega arith))
+-- lookup, at word i of the map
+module _ (map : List ℕ) (i p : ℕ) where
+  pub lookup_end : length map < i + 2 → lookup_of (drop i map) p ≡ Absent
+  lookup_end h = short_lookup (drop i map) p (simp length-drop (omega arith))
 
-no_leaves : (pages : List ℕ) → map_of pages [] ≡ []
-no_leaves [] = refl
-no_leaves (k ∷ pages) = refl
-
--- lookup in two columns, from entry i on
-module _ (pages leaves : List ℕ) (i p : ℕ) where
-  pub lookup_end : length pages ≤ i → lookup_of (map_of (drop i pages) (drop i leaves)) p ≡ Absent
+  pub lookup_hit : i + 2 ≤ length map → get_or map i 0 ≡ p → lookup_of (drop i map) p ≡ Leaf (get_or map (i + 1) 0)
   unfolding lookup_of
-  lookup_end h = rw (past pages i h)
+  lookup_hit h e = rw (two map i h, eq-eqb (get_or map i 0) p e)
 
-  lookup_short : length leaves ≤ i → lookup_of (map_of (drop i pages) (drop i leaves)) p ≡ Absent
+  pub lookup_miss : i + 2 ≤ length map → (get_or map i 0 ≡ p → ⊥) → lookup_of (drop i map) p ≡ lookup_of (drop (i + 2) map) p
   unfolding lookup_of
-  lookup_short h = rw (past leaves i h, no_leaves (drop i pages))
+  lookup_miss h e = rw (two map i h, ne_eqb (get_or map i 0) p e)
 
-  pub lookup_hit : i < length pages → get_or pages i 0 ≡ p
-      → lookup_of (map_of (drop i pages) (drop i leaves)) p ≡ pick (ltb i (length leaves)) (Leaf (get_or leaves i 0)) Absent
-  unfolding lookup_of
-  lookup_hit h e =
-      either i (length leaves) (λ l. rw (lt-ltb i (length leaves) l, one pages i h, one leaves i l, eq-eqb (get_or pages i 0) p e))
-      (λ l. rw (le-ltb i (length leaves) l) (lookup_short l))
-
-module _ (pages leaves : List ℕ) (i p : ℕ) where
-  pub lookup_miss : i < length pages → (get_or pages i 0 ≡ p → ⊥)
-      → lookup_of (map_of (drop i pages) (drop i leaves)) p ≡ lookup_of (map_of (drop (i + 1) pages) (drop (i + 1) leaves)) p
-  unfolding lookup_of
-  lookup_miss h e =
-      either i (length leaves) (λ l. rw (one pages i h, one leaves i l, ne_eqb (get_or pages i 0) p e))
-      (λ l. lookup_short pages leaves i p l ∙ sym (lookup_short pages leaves (i + 1) p (omega arith)))
-
--- entry i of the map, from 0 up
-abbrev pub entry_at : Map → (i : ℕ) → MapEntry
-entry_at map i = get_or map i (record { page = 0; leaf = 0 })
+-- two words an entry
+double : (i : ℕ) → 2 * suc i ≡ suc (suc (2 * i))
+double i = omega arith
 
 -- an entry of the map: where it stands
-pub record Stands (map : Map) (page leaf : ℕ) : Type 0 where
+pub record Stands (map : List ℕ) (page leaf : ℕ) : Type 0 where
   pub place : ℕ
-  pub inside : place < length map
-  pub number : (entry_at map place).page ≡ page
-  pub word : (entry_at map place).leaf ≡ leaf
+  pub inside : 2 * place + 2 ≤ length map
+  pub number : get_or map (2 * place) 0 ≡ page
+  pub word : get_or map (suc (2 * place)) 0 ≡ leaf
 
 none : {A : Type 0} (leaf : ℕ) → Absent ≡ Leaf leaf → A
 none leaf e = absurd (let z : ◌≡◌ {A = ℕ} 0 1 = cc in omega arith)
 
 -- the first entry, or one of the rest
-either_entry : {e : MapEntry} {page leaf : ℕ} {rest : Map} (b : Bool) → eqb e.page page ≡ b
-    → pick b (Leaf e.leaf) (lookup_of rest page) ≡ Leaf leaf
-    → (lookup_of rest page ≡ Leaf leaf → Stands rest page leaf) → Stands (e ∷ rest) page leaf
-either_entry {e} {page} {leaf} {rest} true h f more =
-    record { place = 0; inside = omega arith; number = eqb-true e.page page h; word = cc }
-either_entry {e} {page} {leaf} {rest} false h f more =
+either_entry : {k l page leaf : ℕ} {rest : List ℕ} (b : Bool) → eqb k page ≡ b → pick b (Leaf l) (lookup_of rest page) ≡ Leaf leaf
+    → (lookup_of rest page ≡ Leaf leaf → Stands rest page leaf) → Stands (k ∷ l ∷ rest) page leaf
+either_entry {k} {l} {page} {leaf} {rest} true h f more =
+    record { place = 0; inside = omega arith; number = eqb-true k page h; word = cc }
+either_entry {k} {l} {page} {leaf} {rest} false h f more =
     let s = more f in
-    record { place = suc s.place; inside = omega (arith, s.inside); number = s.number; word = s.word }
+    record { place = suc s.place; inside = omega (arith, s.inside); number = rw double s.number; word = rw double s.word }
 
 -- what lookup finds is an entry
-pub lookup_stands : (map : Map) (page leaf : ℕ) → lookup_of map page ≡ Leaf leaf → Stands map page leaf
+pub lookup_stands : (map : List ℕ) (page leaf : ℕ) → lookup_of map page ≡ Leaf leaf → Stands map page leaf
 unfolding lookup_of
-lookup_stands [] page leaf f = none leaf f
-lookup_stands (e ∷ rest) page leaf f = either_entry (eqb e.page page) refl f (lookup_stands rest page leaf)
+lookup_stands [] page leaf e = none leaf e
+lookup_stands (k ∷ []) page leaf e = none leaf e
+lookup_stands (k ∷ l ∷ rest) page leaf e = either_entry (eqb k page) refl e (lookup_stands rest page leaf)
 
 -- what the loop of refusal 3 has still to ask: a number too low or too large from here on
 unfoldable pub wrong : ℕ → List ℕ → Bool
@@ -108,144 +92,133 @@ low_or_not k l =
     either k l (λ h. rw (lt-ltb k l h, le-ltb l (k + 1) (omega arith)))
     (λ h. rw (le-ltb k l h, lt-ltb l (k + 1) (omega arith)))
 
-wrong_from : (last : ℕ) (pages : List ℕ) → any_large pages || not (strictly_rise (last ∷ pages)) ≡ wrong (last + 1) pages
-unfolding any_large strictly_rise wrong
+wrong_from : (last : ℕ) (pages : List ℕ) → any_large pages || not (rise_from last pages) ≡ wrong (last + 1) pages
+unfolding any_large rise_from wrong
 wrong_from last [] = refl
 wrong_from last (k ∷ rest) =
-    rw (fallen (ltb last k) (leb (2 ^ 27) k) (any_large rest) (strictly_rise (k ∷ rest)), low_or_not last k, wrong_from k rest)
+    rw (fallen (ltb last k) (leb (2 ^ 27) k) (any_large rest) (rise_from k rest), low_or_not last k, wrong_from k rest)
 
 wrong_all : (pages : List ℕ) → any_large pages || not (strictly_rise pages) ≡ wrong 0 pages
 unfolding any_large strictly_rise wrong
 wrong_all [] = refl
 wrong_all (k ∷ rest) =
-    rw (apart (leb (2 ^ 27) k) (any_large rest) (not (strictly_rise (k ∷ rest))), wrong_from k rest, le-ltb k 0 (omega arith))
+    rw (apart (leb (2 ^ 27) k) (any_large rest) (not (rise_from k rest)), wrong_from k rest, le-ltb k 0 (omega arith))
 
-module _ (pages leaves : List ℕ) where
-  pub refused_unequal : (length pages ≡ length leaves → ⊥) → map_refused_of (Columns pages leaves) ≡ true
-  unfolding map_refused_of
-  refused_unequal h = rw (ne_eqb (length pages) (length leaves) h)
+-- the loop of refusal 3, from word i on, where the next number may be `low`
+unfoldable pub wrong_at : ℕ → List ℕ → Bool
+wrong_at low words = wrong low (pages_of words)
 
-  pub refused_long : length pages ≡ length leaves → 64 < length pages → map_refused_of (Columns pages leaves) ≡ true
-  unfolding map_refused_of
-  refused_long h l = rw (eq-eqb (length pages) (length leaves) h, lt-ltb 64 (length pages) l)
+pub refused_odd : (map : List ℕ) → (length map % 2 ≡ 0 → ⊥) → map_refused_of map ≡ true
+unfolding map_refused_of
+refused_odd map h = rw (eq-eqb (length map % 2) 1 (omega arith))
 
-  pub refused_start : length pages ≡ length leaves → length pages ≤ 64 → map_refused_of (Columns pages leaves) ≡ wrong 0 pages
-  unfolding map_refused_of
-  refused_start h l = rw (eq-eqb (length pages) (length leaves) h, le-ltb 64 (length pages) l, wrong_all pages)
+pub refused_long : (map : List ℕ) → length map % 2 ≡ 0 → 128 < length map → map_refused_of map ≡ true
+unfolding map_refused_of
+refused_long map h l = rw (ne_eqb (length map % 2) 1 (λ e. omega arith), lt-ltb 128 (length map) l)
 
-module _ (pages : List ℕ) (i low : ℕ) where
-  pub wrong_end : length pages ≤ i → wrong low (drop i pages) ≡ false
-  unfolding wrong
-  wrong_end h = rw (past pages i h)
+pub refused_start : (map : List ℕ) → length map % 2 ≡ 0 → length map ≤ 128 → map_refused_of map ≡ wrong_at 0 map
+unfolding map_refused_of wrong_at
+refused_start map h l =
+    rw (ne_eqb (length map % 2) 1 (λ e. omega arith), le-ltb 128 (length map) l, wrong_all (pages_of map))
 
-  pub wrong_low : i < length pages → get_or pages i 0 < low → wrong low (drop i pages) ≡ true
-  unfolding wrong
-  wrong_low h e = rw (one pages i h, lt-ltb (get_or pages i 0) low e)
+short_wrong : (low : ℕ) (l : List ℕ) → length l ≡ 0 → wrong_at low l ≡ false
+unfolding wrong_at wrong pages_of
+short_wrong low [] h = refl
+short_wrong low (k ∷ l) h = absurd (omega arith)
 
-  pub wrong_large : i < length pages → low ≤ get_or pages i 0 → 2 ^ 27 ≤ get_or pages i 0 → wrong low (drop i pages) ≡ true
-  unfolding wrong
-  wrong_large h e g = rw (one pages i h, le-ltb (get_or pages i 0) low e, le-leb (2 ^ 27) (get_or pages i 0) g)
+module _ (map : List ℕ) (i low : ℕ) where
+  pub wrong_end : length map ≤ i → wrong_at low (drop i map) ≡ false
+  wrong_end h = short_wrong low (drop i map) (simp length-drop (omega arith))
 
-  pub wrong_next : i < length pages → low ≤ get_or pages i 0 → get_or pages i 0 < 2 ^ 27
-      → wrong low (drop i pages) ≡ wrong (get_or pages i 0 + 1) (drop (i + 1) pages)
-  unfolding wrong
-  wrong_next h e g = rw (one pages i h, le-ltb (get_or pages i 0) low e, lt-leb (2 ^ 27) (get_or pages i 0) g)
+  pub wrong_low : i + 2 ≤ length map → get_or map i 0 < low → wrong_at low (drop i map) ≡ true
+  unfolding wrong_at wrong pages_of
+  wrong_low h e = rw (two map i h, lt-ltb (get_or map i 0) low e)
 
--- two empty columns are accepted
-pub empty_accepted : map_refused_of (Columns [] []) ≡ false
-unfolding map_refused_of any_large strictly_rise
+  pub wrong_large : i + 2 ≤ length map → low ≤ get_or map i 0 → 2 ^ 27 ≤ get_or map i 0 → wrong_at low (drop i map) ≡ true
+  unfolding wrong_at wrong pages_of
+  wrong_large h e g = rw (two map i h, le-ltb (get_or map i 0) low e, le-leb (2 ^ 27) (get_or map i 0) g)
+
+  pub wrong_next : i + 2 ≤ length map → low ≤ get_or map i 0 → get_or map i 0 < 2 ^ 27
+      → wrong_at low (drop i map) ≡ wrong_at (get_or map i 0 + 1) (drop (i + 2) map)
+  unfolding wrong_at wrong pages_of
+  wrong_next h e g = rw (two map i h, le-ltb (get_or map i 0) low e, lt-leb (2 ^ 27) (get_or map i 0) g)
+
+-- a map of no entry is accepted
+pub empty_accepted : map_refused_of [] ≡ false
+unfolding map_refused_of any_large strictly_rise pages_of
 empty_accepted = refl
 
--- a map whose page numbers rise, from `low` on
+-- an accepted map
 
-unpack : (low k : ℕ) (rest : List ℕ) → wrong low (k ∷ rest) ≡ false → (low ≤ k) × (k < 2 ^ 27) × (wrong (k + 1) rest ≡ false)
-unfolding wrong
-unpack low k rest h =
-    let q = neither (ltb k low) (leb (2 ^ 27) k || wrong (k + 1) rest) h in
-    let r = neither (leb (2 ^ 27) k) (wrong (k + 1) rest) q.1 in
+unpack : (low k e : ℕ) (rest : List ℕ) → wrong_at low (k ∷ e ∷ rest) ≡ false
+    → (low ≤ k) × (k < 2 ^ 27) × (wrong_at (k + 1) rest ≡ false)
+unfolding wrong_at wrong pages_of
+unpack low k e rest h =
+    let q = neither (ltb k low) (leb (2 ^ 27) k || wrong (k + 1) (pages_of rest)) h in
+    let r = neither (leb (2 ^ 27) k) (wrong (k + 1) (pages_of rest)) q.1 in
     (ltb-false k low q.0, leb-false (2 ^ 27) k r.0, r.1)
 
-bounded : (low : ℕ) (pages leaves : List ℕ) → wrong low pages ≡ false → (i : ℕ) → i < length (map_of pages leaves)
-    → (low ≤ (entry_at (map_of pages leaves) i).page) × ((entry_at (map_of pages leaves) i).page < 2 ^ 27)
-bounded low [] leaves h i p = absurd (omega arith)
-bounded low (k ∷ pages) [] h i p = absurd (omega arith)
-bounded low (k ∷ pages) (e ∷ leaves) h zero p =
-    let q = unpack low k pages h in
+bounded : (low : ℕ) (map : List ℕ) → wrong_at low map ≡ false
+    → (i : ℕ) → 2 * i + 2 ≤ length map → (low ≤ get_or map (2 * i) 0) × (get_or map (2 * i) 0 < 2 ^ 27)
+bounded low [] h i p = absurd (omega arith)
+bounded low (k ∷ []) h i p = absurd (omega arith)
+bounded low (k ∷ e ∷ rest) h zero p =
+    let q = unpack low k e rest h in
     (q.0, q.1)
-bounded low (k ∷ pages) (e ∷ leaves) h (suc i) p =
-    let q = unpack low k pages h in
-    let s = bounded (k + 1) pages leaves q.2 i (omega arith) in
-    (omega (arith, s.0, q.0), s.1)
+bounded low (k ∷ e ∷ rest) h (suc i) p =
+    let q = unpack low k e rest h in
+    let s = bounded (k + 1) rest q.2 i (omega arith) in
+    rw double (omega arith, s.1)
 
-rises : (low : ℕ) (pages leaves : List ℕ) → wrong low pages ≡ false → (i j : ℕ) → i < j → j < length (map_of pages leaves)
-    → (entry_at (map_of pages leaves) i).page < (entry_at (map_of pages leaves) j).page
-rises low [] leaves h i j l p = absurd (omega arith)
-rises low (k ∷ pages) [] h i j l p = absurd (omega arith)
-rises low (k ∷ pages) (e ∷ leaves) h i zero l p = absurd (omega arith)
-rises low (k ∷ pages) (e ∷ leaves) h zero (suc j) l p =
-    omega (arith, (bounded (k + 1) pages leaves (unpack low k pages h).2 j (omega arith)).0)
-rises low (k ∷ pages) (e ∷ leaves) h (suc i) (suc j) l p =
-    rises (k + 1) pages leaves (unpack low k pages h).2 i j (omega arith) (omega arith)
+rises : (low : ℕ) (map : List ℕ) → wrong_at low map ≡ false
+    → (i j : ℕ) → i < j → 2 * j + 2 ≤ length map → get_or map (2 * i) 0 < get_or map (2 * j) 0
+rises low [] h i j l p = absurd (omega arith)
+rises low (k ∷ []) h i j l p = absurd (omega arith)
+rises low (k ∷ e ∷ rest) h i zero l p = absurd (omega arith)
+rises low (k ∷ e ∷ rest) h zero (suc j) l p =
+    rw (double j) (omega (arith, (bounded (k + 1) rest (unpack low k e rest h).2 j (omega arith)).0))
+rises low (k ∷ e ∷ rest) h (suc i) (suc j) l p =
+    rw (double i, double j) (rises (k + 1) rest (unpack low k e rest h).2 i j (omega arith) (omega arith))
 
-finds : (low : ℕ) (pages leaves : List ℕ) → wrong low pages ≡ false → (i : ℕ) → i < length (map_of pages leaves)
-    → lookup_of (map_of pages leaves) (entry_at (map_of pages leaves) i).page ≡ Leaf (entry_at (map_of pages leaves) i).leaf
+finds : (low : ℕ) (map : List ℕ) → wrong_at low map ≡ false
+    → (i : ℕ) → 2 * i + 2 ≤ length map → lookup_of map (get_or map (2 * i) 0) ≡ Leaf (get_or map (suc (2 * i)) 0)
 unfolding lookup_of
-finds low [] leaves h i p = absurd (omega arith)
-finds low (k ∷ pages) [] h i p = absurd (omega arith)
-finds low (k ∷ pages) (e ∷ leaves) h zero p = rw (eq-eqb k k refl)
-finds low (k ∷ pages) (e ∷ leaves) h (suc i) p =
-    let q = unpack low k pages h in
-    let b = bounded (k + 1) pages leaves q.2 i (omega arith) in
-    rw (ne_eqb k (entry_at (map_of pages leaves) i).page (λ s. omega (arith, b.0))) (finds (k + 1) pages leaves q.2 i (omega arith))
+finds low [] h i p = absurd (omega arith)
+finds low (k ∷ []) h i p = absurd (omega arith)
+finds low (k ∷ e ∷ rest) h zero p = rw (eq-eqb k k refl)
+finds low (k ∷ e ∷ rest) h (suc i) p =
+    let q = unpack low k e rest h in
+    let b = bounded (k + 1) rest q.2 i (omega arith) in
+    rw (double i, ne_eqb k (get_or rest (2 * i) 0) (λ s. omega arith)) (finds (k + 1) rest q.2 i (omega arith))
 
--- an accepted map, in whichever form it is lent
+module _ (map : List ℕ) (ok : map_refused_of map ≡ false) where
+  -- it has a leaf for each page number, and at most 64 entries
+  pub map_even : length map % 2 ≡ 0
+  unfolding map_refused_of
+  map_even = omega (arith, eqb-false (length map % 2) 1 (neither (eqb (length map % 2) 1) _ ok).0)
 
-right : (lent : Lent) → map_refused_of lent ≡ false
-    → (pages : List ℕ) × (leaves : List ℕ) × (wrong 0 pages ≡ false) × (lent_map_of lent ≡ map_of pages leaves)
-unfolding map_refused_of
-right (Columns pages leaves) ok =
-    let q = neither (not (eqb (length pages) (length leaves))) _ ok in
-    let r = neither (ltb 64 (length pages)) _ q.1 in
-    (pages, leaves, sym (wrong_all pages) ∙ r.1, refl)
-right (Interleaved words) ok =
-    let q = neither (eqb (length words % 2) 1) _ ok in
-    let r = neither (ltb 128 (length words)) _ q.1 in
-    (every_second words, every_second (drop 1 words), sym (wrong_all (every_second words)) ∙ r.1, refl)
+  pub map_short : length map ≤ 128
+  unfolding map_refused_of
+  map_short = ltb-false 128 (length map) (neither (ltb 128 (length map)) _ (neither (eqb (length map % 2) 1) _ ok).1).0
 
-module _ (lent : Lent) (ok : map_refused_of lent ≡ false) where
-  abbrev map : Map
-  map = lent_map_of lent
+  right : wrong_at 0 map ≡ false
+  unfolding map_refused_of wrong_at
+  right =
+      let q = neither (eqb (length map % 2) 1) _ ok in
+      let r = neither (ltb 128 (length map)) _ q.1 in
+      sym (wrong_all (pages_of map)) ∙ r.1
 
   -- its page numbers are below 2 ^ 27
-  pub page_below : (i : ℕ) → i < length map → (entry_at map i).page < 2 ^ 27
-  page_below i p =
-      let (pages, leaves, w, e) = right lent ok in
-      rw (← e) at (bounded 0 pages leaves w i (rw e at p)).1
+  pub page_below : (i : ℕ) → 2 * i + 2 ≤ length map → get_or map (2 * i) 0 < 2 ^ 27
+  page_below i p = (bounded 0 map right i p).1
 
   -- each page number stands once
-  pub page_once : (i j : ℕ) → i < length map → j < length map → (entry_at map i).page ≡ (entry_at map j).page → i ≡ j
-  page_once i j p q s =
-      let (pages, leaves, w, e) = right lent ok in
-      either i j (λ l. absurd (omega (arith, rises 0 pages leaves w i j l (rw e at q), rw e at s)))
-      (λ l. either j i (λ m. absurd (omega (arith, rises 0 pages leaves w j i m (rw e at p), rw e at s))) (λ m. omega arith))
+  pub page_once : (i j : ℕ) → 2 * i + 2 ≤ length map → 2 * j + 2 ≤ length map
+      → get_or map (2 * i) 0 ≡ get_or map (2 * j) 0 → i ≡ j
+  page_once i j p q e =
+      either i j (λ l. absurd (omega (arith, rises 0 map right i j l q)))
+      (λ l. either j i (λ m. absurd (omega (arith, rises 0 map right j i m p))) (λ m. omega arith))
 
   -- so lookup finds each entry
-  pub entry_found : (i : ℕ) → i < length map → lookup_of map (entry_at map i).page ≡ Leaf (entry_at map i).leaf
-  entry_found i p =
-      let (pages, leaves, w, e) = right lent ok in
-      rw e (finds 0 pages leaves w i (rw e at p))
-
-taken : (b : Bool) → not b ≡ false → b ≡ true
-taken true h = refl
-taken false h = cc
-
--- columns that are accepted have a leaf for each page number, and at most 64 entries
-module _ (pages leaves : List ℕ) (ok : map_refused_of (Columns pages leaves) ≡ false) where
-  pub columns_level : length pages ≡ length leaves
-  unfolding map_refused_of
-  columns_level = eqb-true (length pages) (length leaves) (taken (eqb (length pages) (length leaves)) (neither (not (eqb (length pages) (length leaves))) _ ok).0)
-
-  pub columns_short : length pages ≤ 64
-  unfolding map_refused_of
-  columns_short =
-      ltb-false 64 (length pages) (neither (ltb 64 (length pages)) _ (neither (not (eqb (length pages) (length leaves))) _ ok).1).0
+  pub entry_found : (i : ℕ) → 2 * i + 2 ≤ length map → lookup_of map (get_or map (2 * i) 0) ≡ Leaf (get_or map (suc (2 * i)) 0)
+  entry_found i p = finds 0 map right i p

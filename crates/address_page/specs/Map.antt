@@ -1,18 +1,37 @@
--- The page map: a list of entries, each a page number and its leaf. Steps and runs are defined over this list alone; how the host lends it
--- is told in Lent.antt. Rules 1.9 and 7.5 of docs/HART.md.
-use Rattle.std.specs.Prelude.{List, [], ◌∷◌, ℕ, eqb}
+-- The page map: two words a page, the page number and then its leaf. Rules 1.9, 2.6 and 7.5 of docs/HART.md.
+use Rattle.std.specs.Prelude.{Bool, true, false, ◌&&◌, ◌||◌, not, List, [], ◌∷◌, ℕ, ◌%◌, ◌^◌, eqb, leb, ltb, length}
 use Rattle.word.specs.Choice.{pick}
 use Rattle.address_page.specs.declared.map.Found.TheVariants.{Leaf, Absent}
 use Rattle.address_page.specs.declared.map.Found.{Found}
 
-pub record MapEntry : Type 0 where
-  pub page : ℕ
-  pub leaf : ℕ
-
-abbrev pub Map : Type 0
-Map = List MapEntry
-
--- the leaf of the first entry that has this page number
-unfoldable pub lookup_of : Map → (page : ℕ) → Found
+-- the leaf word of the first entry that has this page number
+unfoldable pub lookup_of : List ℕ → ℕ → Found
 lookup_of [] page = Absent
-lookup_of (e ∷ rest) page = pick (eqb e.page page) (Leaf e.leaf) (lookup_of rest page)
+lookup_of (k ∷ []) page = Absent
+lookup_of (k ∷ e ∷ rest) page = pick (eqb k page) (Leaf e) (lookup_of rest page)
+
+-- the page numbers, in their order
+unfoldable pub pages_of : List ℕ → List ℕ
+pages_of [] = []
+pages_of (k ∷ []) = k ∷ []
+pages_of (k ∷ e ∷ rest) = k ∷ pages_of rest
+
+-- one of them is 2 ^ 27 or more
+unfoldable pub any_large : List ℕ → Bool
+any_large [] = false
+any_large (k ∷ rest) = leb (2 ^ 27) k || any_large rest
+
+-- each is above the one before it, the first above `last`
+unfoldable pub rise_from : ℕ → List ℕ → Bool
+rise_from last [] = true
+rise_from last (k ∷ rest) = ltb last k && rise_from k rest
+
+unfoldable pub strictly_rise : List ℕ → Bool
+strictly_rise [] = true
+strictly_rise (k ∷ rest) = rise_from k rest
+
+-- refusal 3: an odd word count, over 128 words, a page number of 2 ^ 27 or more, or numbers that don't strictly rise
+unfoldable pub map_refused_of : List ℕ → Bool
+map_refused_of map =
+    eqb (length map % 2) 1
+    || (ltb 128 (length map) || (any_large (pages_of map) || not (strictly_rise (pages_of map))))

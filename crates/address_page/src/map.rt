@@ -1,9 +1,6 @@
-// The page map, lent in two columns: the page numbers, and beside each its leaf. Lookup of a number, and refusal 3.
-ghost use Rattle.std.specs.Prelude.{◌≡◌, ltb, length, get_or};
-ghost use Rattle.word.specs.Choice.{pick};
-ghost use Rattle.address_page.specs.Map.{lookup_of};
-ghost use Rattle.address_page.specs.Lent.{map_of, map_refused_of, Columns};
-ghost use Rattle.address_page.specs.declared.map.Found.TheVariants.{Leaf, Absent};
+// The page map: two words a page, its number and then its leaf. Lookup of a number, and refusal 3.
+ghost use Rattle.std.specs.Prelude.{◌≡◌};
+ghost use Rattle.address_page.specs.Map.{lookup_of, map_refused_of};
 
 #[derive(Drop)]
 pub enum Found {
@@ -11,54 +8,44 @@ pub enum Found {
     Absent,
 }
 
-// The leaf of entry i, if the column of leaves reaches so far: in an accepted map it does.
-fn leaf(leaves: &[u64], i: usize) -> Found
-    ensures { result ≡ pick (ltb i (length leaves.now)) (Leaf (get_or leaves.now i 0)) Absent }
-{
-    if i < leaves.len() {
-        return Found::Leaf(leaves[i]);
-    }
-    Found::Absent
-}
-
-// The leaf of the first entry that has this page number. A turn of the loop reads two page numbers: with one, it is so short that its speed
-// hangs on where the compiler puts it (docs/SPEED.md).
-pub fn lookup(pages: &[u32], leaves: &[u64], page: u32) -> Found
-    ensures { result ≡ lookup_of (map_of pages.now leaves.now) page }
+// The leaf word of the first entry that has this page number. i is where an entry's leaf word stands. A turn of the loop reads two entries: with one,
+// it is so short that its speed hangs on where the compiler puts it (docs/SPEED.md).
+pub fn lookup(map: &[u64], page: u64) -> Found
+    ensures { result ≡ lookup_of map.now page }
 {
     let mut i = 1;
-    while i < pages.len() {
-        if pages[i - 1] == page {
-            return leaf(leaves, i - 1);
+    while i + 2 < map.len() {
+        if map[i - 1] == page {
+            return Found::Leaf(map[i]);
         }
-        if pages[i] == page {
-            return leaf(leaves, i);
+        if map[i + 1] == page {
+            return Found::Leaf(map[i + 2]);
         }
-        i = i + 2;
+        i = i + 4;
     }
-    if pages.len() < i {
+    if map.len() <= i {
         return Found::Absent;
     }
-    if pages[i - 1] == page {
-        return leaf(leaves, i - 1);
+    if map[i - 1] == page {
+        return Found::Leaf(map[i]);
     }
     Found::Absent
 }
 
 // Refusal 3. `low` is the least number that the next page may have.
-pub fn refused(pages: &[u32], leaves: &[u64]) -> bool
-    ensures { result ≡ map_refused_of (Columns pages.now leaves.now) }
+pub fn refused(map: &[u64]) -> bool
+    ensures { result ≡ map_refused_of map.now }
 {
-    if pages.len() != leaves.len() {
+    if map.len() % 2 != 0 {
         return true;
     }
-    if 64 < pages.len() {
+    if 128 < map.len() {
         return true;
     }
     let mut low = 0;
     let mut i = 0;
-    while i < pages.len() {
-        let k = pages[i];
+    while i < map.len() {
+        let k = map[i];
         if k < low {
             return true;
         }
@@ -66,7 +53,7 @@ pub fn refused(pages: &[u32], leaves: &[u64]) -> bool
             return true;
         }
         low = k + 1;
-        i = i + 1;
+        i = i + 2;
     }
     false
 }

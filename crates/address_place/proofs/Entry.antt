@@ -2,10 +2,11 @@
 -- Assumes nothing.
 use mathlib.Core.Path.{◌≡◌, refl}
 use mathlib.Core.Bool.{Bool, true, false}
+use mathlib.Core.List.{List}
 use Prim.Native.Nat.{ℕ}
 use Rattle.word.specs.Choice.{pick}
 use Rattle.isa.specs.declared.Width.{Width}
-use Rattle.address_page.specs.Map.{Map, lookup_of}
+use Rattle.address_page.specs.Map.{lookup_of}
 use Rattle.isa.specs.declared.Kind.{Kind}
 use Rattle.address_page.specs.declared.Regime.{Regime}
 use Rattle.address_page.specs.declared.map.Found.{Found}
@@ -20,7 +21,7 @@ module _ (g : Regime) (k : Kind) (w : Width) (t len : ℕ) where
   either_way true f = refl
   either_way false f = refl
 
-  pub paged_through : (map : Map)
+  pub paged_through : (map : List ℕ)
       → paged_place_of g k w t map len ≡ through_of (pick (canonical_of t) (lookup_of map (page_number t)) Absent) g k w len t
   unfolding paged_place_of
   paged_through map = either_way (canonical_of t) (lookup_of map (page_number t))

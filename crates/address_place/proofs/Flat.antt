@@ -2,11 +2,11 @@
 -- Assumes nothing.
 use mathlib.Core.Path.{◌≡◌, refl, sym}
 use mathlib.Core.Bool.{Bool, true, false, ◌||◌, not}
+use mathlib.Core.List.{List}
 use Prim.Native.Nat.{ℕ, ◌+◌, ◌-◌, ◌^◌, ◌<◌, ◌≤◌}
 use native.Mathlib.Omega.{arith}
 use lib.Dec.{eqb}
 use borrow.Author.Tests.{eqb-true}
-use Rattle.address_page.specs.Map.{Map}
 use Rattle.word.proofs.Bools.{both}
 use Rattle.isa.specs.Size.{size_of}
 use Rattle.isa.specs.declared.Width.TheVariants.{Word}
@@ -79,18 +79,18 @@ unmasked c m k a h false u e =
     rw u (sym (mask_none (pmlen_of (pmm_of m c.upmm c.spmm c.mpmm)) (paged_of m c.sv39) a h (rw z)))
 
 -- in M or Bare the address stays what it is, and an access that is no shadow access has steps 3 and 9 left
-plainly_reached : (c : Control) (m : Mode) (k : Kind) (w : Width) (a : ℕ) (map : Map) (len : ℕ)
+plainly_reached : (c : Control) (m : Mode) (k : Kind) (w : Width) (a : ℕ) (map : List ℕ) (len : ℕ)
     → is_shadow_of k ≡ false → paged_of m c.sv39 ≡ false
     → reached_of c m k w a map len ≡ flat_place_of k w a len
 unfolding reached_of plain_place_of flat_place_of
 plainly_reached c m k w a map len s p = rw (p, s)
 
-pub fetch_flat : (c : Control) (a : ℕ) (map : Map) (len : ℕ) → bare_of c ≡ true
+pub fetch_flat : (c : Control) (a : ℕ) (map : List ℕ) (len : ℕ) → bare_of c ≡ true
     → place_of c Fetch Word a map len ≡ flat_place_of Fetch Word a len
 unfolding place_of transformed_of bare_of
 fetch_flat c a map len e = plainly_reached c (effective_mode_of c Fetch) Fetch Word a map len refl (off _ e)
 
-pub data_flat : (c : Control) (k : Kind) (w : Width) (a : ℕ) (map : Map) (len : ℕ) → flat_of c ≡ true
+pub data_flat : (c : Control) (k : Kind) (w : Width) (a : ℕ) (map : List ℕ) (len : ℕ) → flat_of c ≡ true
     → is_shadow_of k ≡ false → is_fetch_of k ≡ false → a < 2 ^ 64
     → place_of c k w a map len ≡ flat_place_of k w a len
 unfolding place_of flat_of

@@ -3,6 +3,7 @@
 -- Assumes nothing.
 use mathlib.Core.Path.{◌≡◌, sym, ◌∙◌, ap, subst}
 use mathlib.Core.Bool.{true}
+use mathlib.Core.List.{List}
 use Prim.Native.Nat.{ℕ, ◌+◌, ◌-◌, ◌/◌, ◌%◌, ◌^◌, ◌<◌, ◌≤◌}
 use native.Mathlib.Omega.{arith}
 use borrow.Author.Tests.{le-leb}
@@ -11,7 +12,7 @@ use Rattle.isa.specs.declared.Width.{Width}
 use Rattle.address_leaf.specs.Leaf.{leaf_of}
 use Rattle.address_judge.specs.Judge.{judge_of}
 use Rattle.address_judge.specs.declared.Verdict.TheVariants.{Granted}
-use Rattle.address_page.specs.Map.{Map, lookup_of}
+use Rattle.address_page.specs.Map.{lookup_of}
 use Rattle.isa.specs.declared.Kind.{Kind}
 use Rattle.address_page.specs.declared.Regime.{Regime}
 use Rattle.address_page.specs.declared.map.Found.TheVariants.{Leaf}
@@ -45,13 +46,13 @@ pub inside_there : (k : Kind) (w : Width) (len p t : ℕ) → base ≤ p → p +
 unfolding inside_of within_of
 inside_there k w len p t l u = rw (le-leb base p l, le-leb (p + size_of w) (base + len) u)
 
-granted_there : (g : Regime) (k : Kind) (w : Width) (len t e : ℕ) (map : Map) → canonical_of t ≡ true → lookup_of map (page_number t) ≡ Leaf e
+granted_there : (g : Regime) (k : Kind) (w : Width) (len t e : ℕ) (map : List ℕ) → canonical_of t ≡ true → lookup_of map (page_number t) ≡ Leaf e
     → judge_of g k (leaf_of e) ≡ Granted → base ≤ physical_of e t → physical_of e t + size_of w ≤ base + len
     → paged_place_of g k w t map len ≡ At (record { 0 = physical_of e t })
 unfolding paged_place_of through_of settle_of
 granted_there g k w len t e map c f j l u = rw (c, f, j) (inside_there k w len (physical_of e t) t l u)
 
-pub page_decides : (g : Regime) (k : Kind) (v w : Width) (low t : ℕ) (map : Map) (len : ℕ) (q : Physical)
+pub page_decides : (g : Regime) (k : Kind) (v w : Width) (low t : ℕ) (map : List ℕ) (len : ℕ) (q : Physical)
     → paged_place_of g k v low map len ≡ At q → low % 4096 ≡ 0 → q.0 + 4096 ≤ base + len
     → low ≤ t → t - low + size_of w ≤ 4096 → t < low + 4096
     → paged_place_of g k w t map len ≡ At (record { 0 = q.0 + (t - low) })

@@ -2,6 +2,7 @@
 -- Assumes nothing.
 use mathlib.Core.Path.{◌≡◌, refl, sym, ◌∙◌, subst}
 use mathlib.Core.Bool.{Bool, true, false}
+use mathlib.Core.List.{List}
 use Prim.Native.Nat.{ℕ, ◌+◌, ◌-◌, ◌%◌, ◌≤◌}
 use native.Mathlib.Omega.{arith}
 use lib.Dec.{leb}
@@ -16,7 +17,7 @@ use Rattle.address_judge.proofs.Grants.{store_elsewhere, shadow_there}
 use Rattle.address_page.specs.Kinds.{is_shadow_of}
 use Rattle.address_leaf.specs.Leaf.{leaf_of, shadow_page_of}
 use Rattle.address_judge.specs.Judge.{judge_of}
-use Rattle.address_page.specs.Map.{Map, lookup_of}
+use Rattle.address_page.specs.Map.{lookup_of}
 use Rattle.isa.specs.declared.Kind.TheVariants.{Store}
 use Rattle.isa.specs.declared.Kind.{Kind}
 use Rattle.isa.specs.declared.Mode.{Mode}
@@ -45,7 +46,7 @@ behind true rest c t q e = (refl, e)
 behind false rest c t q e = never c t q e
 
 -- an access through a page: the leaf that granted it, and where it leads
-pub record Paged (g : Regime) (k : Kind) (w : Width) (t : ℕ) (map : Map) (len : ℕ) (q : Physical) : Type 0 where
+pub record Paged (g : Regime) (k : Kind) (w : Width) (t : ℕ) (map : List ℕ) (len : ℕ) (q : Physical) : Type 0 where
   pub leaf : ℕ
   pub canonical : canonical_of t ≡ true
   pub entry : lookup_of map (page_number t) ≡ Leaf leaf
@@ -76,7 +77,7 @@ module _ (k : Kind) (w : Width) (len : ℕ) (q : Physical) where
   settle_at PageFault p t e = never (page_fault_of k) t q e
   settle_at AccessFault p t e = never (access_fault_of k) t q e
 
-  through_at : (g : Regime) (t : ℕ) (map : Map) (f : Found) → canonical_of t ≡ true → lookup_of map (page_number t) ≡ f
+  through_at : (g : Regime) (t : ℕ) (map : List ℕ) (f : Found) → canonical_of t ≡ true → lookup_of map (page_number t) ≡ f
       → through_of f g k w len t ≡ At q → Paged g k w t map len q
   unfolding through_of
   through_at g t map Absent c s e = never (page_fault_of k) t q e
@@ -84,7 +85,7 @@ module _ (k : Kind) (w : Width) (len : ℕ) (q : Physical) where
       let (v, p, i) = settle_at (judge_of g k (leaf_of l)) (physical_of l t) t e in
       record { leaf = l; canonical = c; entry = s; granted = v; frame = p; within = i }
 
-  pub paged_at : (g : Regime) (t : ℕ) (map : Map) → paged_place_of g k w t map len ≡ At q → Paged g k w t map len q
+  pub paged_at : (g : Regime) (t : ℕ) (map : List ℕ) → paged_place_of g k w t map len ≡ At q → Paged g k w t map len q
   unfolding paged_place_of
   paged_at g t map e =
       let (c, f) = behind (canonical_of t) (through_of (lookup_of map (page_number t)) g k w len t) (page_fault_of k) t q e in
@@ -108,7 +109,7 @@ in_page Word t h = omega arith
 in_page Double t h = omega arith
 
 -- a place that was given: what follows for the effective mode m and the transformed address t
-module _ (c : Control) (k : Kind) (w : Width) (a : ℕ) (map : Map) (len : ℕ) (q : Physical) (at : place_of c k w a map len ≡ At q) where
+module _ (c : Control) (k : Kind) (w : Width) (a : ℕ) (map : List ℕ) (len : ℕ) (q : Physical) (at : place_of c k w a map len ≡ At q) where
   abbrev m : Mode
   m = effective_mode_of c k
 
@@ -196,7 +197,7 @@ module _ (c : Control) (k : Kind) (w : Width) (a : ℕ) (map : Map) (len : ℕ) 
   shadow_on_shadow s e found = shadow_there (regime_of c m) (leaf_of e) k s (place_granted (shadow_paged s) e found)
 
 -- how much of the map counts
-module _ (c : Control) (k : Kind) (w : Width) (a : ℕ) (map other : Map) (len : ℕ) where
+module _ (c : Control) (k : Kind) (w : Width) (a : ℕ) (map other : List ℕ) (len : ℕ) where
   -- under Sv39 the one leaf
   pub one_leaf : lookup_of map (page_number (transformed_of c (effective_mode_of c k) k a)) ≡ lookup_of other (page_number (transformed_of c (effective_mode_of c k) k a))
       → place_of c k w a map len ≡ place_of c k w a other len

@@ -1,11 +1,11 @@
 -- What the two kinds of window show.
 -- Assumes nothing.
 use mathlib.Core.Bool.{true, false}
+use mathlib.Core.List.{List}
 use mathlib.Core.Path.{◌≡◌, sym, ◌∙◌}
 use Prim.Native.Nat.{ℕ, ◌+◌, ◌-◌, ◌%◌, ◌^◌, ◌<◌, ◌≤◌}
 use native.Mathlib.Omega.{arith}
 use borrow.Author.Tests.{eq-eqb, not-false}
-use Rattle.address_page.specs.Map.{Map}
 use Rattle.isa.specs.declared.Width.TheVariants.{Word}
 use Rattle.isa.specs.declared.Kind.TheVariants.{Fetch}
 use Rattle.address.specs.Align.{aligned_of}
@@ -25,7 +25,7 @@ unfolding aligned_of
 word_aligned a e = eq-eqb (a % 4) 0 e
 
 -- memory, at its physical addresses
-module _ (c : Control) (map : Map) (len : ℕ) (bare : bare_of c ≡ true) (most : len ≤ 2 ^ 20) (least : 4 ≤ len) where
+module _ (c : Control) (map : List ℕ) (len : ℕ) (bare : bare_of c ≡ true) (most : len ≤ 2 ^ 20) (least : 4 ≤ len) where
   abbrev all : Window
   all = record { low = base; span = len - 3; at = 0 }
 
@@ -44,12 +44,12 @@ module _ (c : Control) (map : Map) (len : ℕ) (bare : bare_of c ≡ true) (most
   }
 
 -- a fetch under Sv39 goes through its page
-module _ (c : Control) (a : ℕ) (map : Map) (len : ℕ) (paged : bare_of c ≡ false) (aligned : a % 4 ≡ 0) where
+module _ (c : Control) (a : ℕ) (map : List ℕ) (len : ℕ) (paged : bare_of c ≡ false) (aligned : a % 4 ≡ 0) where
   fetch_paged : place_of c Fetch Word a map len ≡ paged_place_of (regime_of c (effective_mode_of c Fetch)) Fetch Word a map len
   unfolding place_of reached_of transformed_of bare_of
   fetch_paged = rw (word_aligned a aligned, not-false (paged_of (effective_mode_of c Fetch) c.sv39) paged)
 
-module _ (c : Control) (low : ℕ) (map : Map) (len : ℕ) (q : Physical) (paged : bare_of c ≡ false) (start : low % 4096 ≡ 0)
+module _ (c : Control) (low : ℕ) (map : List ℕ) (len : ℕ) (q : Physical) (paged : bare_of c ≡ false) (start : low % 4096 ≡ 0)
     (at : place_of c Fetch Word low map len ≡ At q) (most : len ≤ 2 ^ 20) (from : base ≤ q.0) (frame : q.0 - base + 4096 ≤ len) where
   abbrev leaf : Window
   leaf = record { low = low; span = 4093; at = q.0 - base }

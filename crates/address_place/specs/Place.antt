@@ -4,14 +4,14 @@
 --
 -- Below, c is what the hart's mode and CSRs say, m the effective mode, a the address as the program gives it, t the transformed
 -- one, which is also tval, p the physical one, and len the number of bytes of memory.
-use Rattle.std.specs.Prelude.{Bool, ◌&&◌, ℕ, ◌+◌, ◌-◌, ◌*◌, ◌/◌, ◌%◌, ◌^◌, ◌≤◌, eqb, leb}
+use Rattle.std.specs.Prelude.{Bool, ◌&&◌, List, ℕ, ◌+◌, ◌-◌, ◌*◌, ◌/◌, ◌%◌, ◌^◌, ◌≤◌, eqb, leb}
 use Rattle.word.specs.Choice.{pick}
 use Rattle.isa.specs.Size.{size_of}
 use Rattle.isa.specs.declared.Width.{Width}
 use Rattle.address_page.specs.Kinds.{is_shadow_of}
 use Rattle.address_leaf.specs.Leaf.{leaf_of}
 use Rattle.address_judge.specs.Judge.{judge_of}
-use Rattle.address_page.specs.Map.{Map, lookup_of}
+use Rattle.address_page.specs.Map.{lookup_of}
 use Rattle.isa.specs.declared.Kind.{Kind}
 use Rattle.isa.specs.declared.Mode.{Mode}
 use Rattle.address_page.specs.declared.Regime.{Regime}
@@ -71,22 +71,23 @@ through_of Absent g k w len t = Fault (page_fault_of k) t
 through_of (Leaf e) g k w len t = settle_of (judge_of g k (leaf_of e)) k w len (physical_of e t) t
 
 -- steps 5 to 9, under Sv39
-unfoldable pub paged_place_of : Regime → Kind → Width → (t : ℕ) → (map : Map) → (len : ℕ) → Place
-paged_place_of g k w t map len = pick (canonical_of t) (through_of (lookup_of map (page_number t)) g k w len t) (Fault (page_fault_of k) t)
+unfoldable pub paged_place_of : Regime → Kind → Width → (t : ℕ) → (map : List ℕ) → (len : ℕ) → Place
+paged_place_of g k w t map len =
+    pick (canonical_of t) (through_of (lookup_of map (page_number t)) g k w len t) (Fault (page_fault_of k) t)
 
 -- in M or Bare: step 4, a shadow access is cause 7; then step 9
 unfoldable pub plain_place_of : Kind → Width → (t len : ℕ) → Place
 plain_place_of k w t len = pick (is_shadow_of k) (Fault 7 t) (inside_of k w len t t)
 
 -- steps 3 to 9, in their order
-unfoldable pub reached_of : Control → Mode → Kind → Width → (t : ℕ) → (map : Map) → (len : ℕ) → Place
+unfoldable pub reached_of : Control → Mode → Kind → Width → (t : ℕ) → (map : List ℕ) → (len : ℕ) → Place
 reached_of c m k w t map len =
     pick (aligned_of w t)
     (pick (paged_of m c.sv39) (paged_place_of (regime_of c m) k w t map len) (plain_place_of k w t len))
     (Fault (misaligned_of k) t)
 
 -- steps 1 to 9
-unfoldable pub place_of : Control → Kind → Width → (a : ℕ) → (map : Map) → (len : ℕ) → Place
+unfoldable pub place_of : Control → Kind → Width → (a : ℕ) → (map : List ℕ) → (len : ℕ) → Place
 place_of c k w a map len = reached_of c (effective_mode_of c k) k w (transformed_of c (effective_mode_of c k) k a) map len
 
 -- steps 3 and 9, of an access that is neither masked nor translated

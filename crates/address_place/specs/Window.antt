@@ -1,6 +1,5 @@
 -- What a window shows: where fetches from its addresses find their words. Rule 10.10 of docs/HART.md.
-use Rattle.std.specs.Prelude.{Bool, ◌≡◌, ℕ, ◌+◌, ◌-◌, ◌%◌, ◌^◌, ◌<◌, ◌≤◌, ltb}
-use Rattle.address_page.specs.Map.{Map}
+use Rattle.std.specs.Prelude.{Bool, List, ◌≡◌, ℕ, ◌+◌, ◌-◌, ◌%◌, ◌^◌, ◌<◌, ◌≤◌, ltb}
 use Rattle.word.specs.Sum.{difference_of}
 use Rattle.isa.specs.declared.Width.TheVariants.{Word}
 use Rattle.isa.specs.declared.Kind.TheVariants.{Fetch}
@@ -18,7 +17,7 @@ covers_of v a = ltb (distance v a) v.span
 
 -- under what the hart's mode and CSRs say (c), with this map and so many bytes of memory: each word that begins in the window lies in memory
 -- whole, and a fetch from an aligned address finds it at that address's distance
-pub record Shows (v : Window) (c : Control) (map : Map) (len : ℕ) : Type 0 where
+pub record Shows (v : Window) (c : Control) (map : List ℕ) (len : ℕ) : Type 0 where
   pub fits : v.at + v.span ≤ len - 3
   pub place : (a : ℕ) → a < 2 ^ 64 → distance v a < v.span → a % 4 ≡ 0
       → place_of c Fetch Word a map len ≡ At (record { 0 = base + (v.at + distance v a) })

@@ -1,6 +1,5 @@
 // The nine steps in their order: from a virtual address to a place in memory, or to a cause and its tval.
 ghost use Rattle.std.specs.Prelude.{false, ◌≡◌, ◌^◌, ◌≤◌, length};
-ghost use Rattle.address_page.specs.Lent.{map_of};
 ghost use Rattle.isa.specs.declared.Width.TheVariants.{Word};
 ghost use Rattle.isa.specs.declared.Kind.TheVariants.{Fetch};
 ghost use Rattle.address_page.specs.declared.map.Found.TheVariants.{Absent};
@@ -52,11 +51,11 @@ fn canonical(t: u64) -> bool
 }
 
 // Step 5: what the map has for the address's page; for one that is not canonical, nothing.
-fn found(t: Virtual, pages: &[u32], leaves: &[u64]) -> Found
-    ensures { result ≡ pick (canonical_of t.0) (lookup_of (map_of pages.now leaves.now) (page_number t.0)) Absent }
+fn found(t: Virtual, map: &[u64]) -> Found
+    ensures { result ≡ pick (canonical_of t.0) (lookup_of map.now (page_number t.0)) Absent }
 {
     if canonical(t.0) {
-        return map::lookup(pages, leaves, (t.0 / 4096 % 0x800_0000) as u32);
+        return map::lookup(map, t.0 / 4096 % 0x800_0000);
     }
     Found::Absent
 }
@@ -98,19 +97,19 @@ fn through(f: Found, g: Regime, k: Kind, w: Width, len: u64, t: Virtual) -> Plac
 }
 
 // Steps 5 to 9, under Sv39.
-fn paged(g: Regime, k: Kind, w: Width, t: Virtual, pages: &[u32], leaves: &[u64], len: u64) -> Place
+fn paged(g: Regime, k: Kind, w: Width, t: Virtual, map: &[u64], len: u64) -> Place
     requires { len ≤ 2 ^ 20 }
-    ensures { result ≡ paged_place_of g k w t.0 (map_of pages.now leaves.now) len }
+    ensures { result ≡ paged_place_of g k w t.0 map.now len }
 {
-    through(found(t, pages, leaves), g, k, w, len, t)
+    through(found(t, map), g, k, w, len, t)
 }
 
 // The same for a fetch, which `fetch` alone calls: so `paged` has one caller too, and both are compiled in place.
-fn paged_fetch(g: Regime, t: Virtual, pages: &[u32], leaves: &[u64], len: u64) -> Place
+fn paged_fetch(g: Regime, t: Virtual, map: &[u64], len: u64) -> Place
     requires { len ≤ 2 ^ 20 }
-    ensures { result ≡ paged_place_of g Fetch Word t.0 (map_of pages.now leaves.now) len }
+    ensures { result ≡ paged_place_of g Fetch Word t.0 map.now len }
 {
-    match found(t, pages, leaves) {
+    match found(t, map) {
         Found::Absent => Place::Fault(cause::page_fault(Kind::Fetch), t.0),
         Found::Leaf(e) => settle(
             address_judge::judge_fetch(g, e),
@@ -136,14 +135,14 @@ fn plain(k: Kind, w: Width, t: Virtual, len: u64) -> Place
 
 // The nine steps for a fetch, which is not masked and always has the current mode: a step by the slow path makes one, and so does a window. Measured
 // (docs/DECISIONS.md): without it a step of the CSR and trap row takes 10 machine instructions more.
-pub fn fetch(c: Control, a: Virtual, pages: &[u32], leaves: &[u64], mem: &[u8]) -> Place
+pub fn fetch(c: Control, a: Virtual, map: &[u64], mem: &[u8]) -> Place
     requires { length mem.now ≤ 2 ^ 20 }
-    ensures { result ≡ place_of c Fetch Word a.0 (map_of pages.now leaves.now) (length mem.now) }
+    ensures { result ≡ place_of c Fetch Word a.0 map.now (length mem.now) }
 {
     let m = c.mode;
     if align::aligned(Width::Word, a) {
         if control::paged(c, m) {
-            return paged_fetch(control::regime(c, m), a, pages, leaves, mem.len() as u64);
+            return paged_fetch(control::regime(c, m), a, map, mem.len() as u64);
         }
         return plain(Kind::Fetch, Width::Word, a, mem.len() as u64);
     }
@@ -152,31 +151,15 @@ pub fn fetch(c: Control, a: Virtual, pages: &[u32], leaves: &[u64], mem: &[u8]) 
 
 // The only ways from a Virtual to a Physical, in Bare and in M too, are this and `fetch`, and the quick ones below, which give the
 // same places.
-pub fn translate(
-    c: Control,
-    k: Kind,
-    w: Width,
-    a: Virtual,
-    pages: &[u32],
-    leaves: &[u64],
-    mem: &[u8],
-) -> Place
+pub fn translate(c: Control, k: Kind, w: Width, a: Virtual, map: &[u64], mem: &[u8]) -> Place
     requires { length mem.now ≤ 2 ^ 20 }
-    ensures { result ≡ place_of c k w a.0 (map_of pages.now leaves.now) (length mem.now) }
+    ensures { result ≡ place_of c k w a.0 map.now (length mem.now) }
 {
     let m = control::effective(c, k);
     let t = mask::transform(c, m, k, a);
     if align::aligned(w, t) {
         if control::paged(c, m) {
-            return paged(
-                control::regime(c, m),
-                k,
-                w,
-                t,
-                pages,
-                leaves,
-                mem.len() as u64,
-            );
+            return paged(control::regime(c, m), k, w, t, map, mem.len() as u64);
         }
         return plain(k, w, t, mem.len() as u64);
     }
@@ -201,15 +184,14 @@ pub fn quick_data(
     k: Kind,
     w: Width,
     a: Virtual,
-    pages: &[u32],
-    leaves: &[u64],
+    map: &[u64],
     mem: &[u8],
 ) -> Place
     requires { (length mem.now ≤ 2 ^ 20) × (flat ≡ flat_of c) × (is_shadow_of k ≡ false) × (is_fetch_of k ≡ false) }
-    ensures { result ≡ place_of c k w a.0 (map_of pages.now leaves.now) (length mem.now) }
+    ensures { result ≡ place_of c k w a.0 map.now (length mem.now) }
 {
     if flat {
         return plainly(k, w, a, mem);
     }
-    translate(c, k, w, a, pages, leaves, mem)
+    translate(c, k, w, a, map, mem)
 }

@@ -1,8 +1,6 @@
 // What fetches from one stretch of addresses have in common: in M or Bare all of memory, under Sv39 a page. While the setting and the map stay as
 // they are, the word at each of these addresses is found by its distance from the first of them.
 ghost use Rattle.std.specs.Prelude.{true, false, List, length, ◌≡◌, ℕ, ◌^◌, ◌≤◌};
-ghost use Rattle.address_page.specs.Lent.{map_of};
-ghost use Rattle.address_page.specs.Map.{Map};
 ghost use Rattle.address.specs.declared.control.Control as declared;
 ghost use Rattle.address.specs.Control.{bare_of};
 ghost use Rattle.address_place.specs.Window.{covers_of, Shows};
@@ -22,7 +20,7 @@ pub struct Window {
 
 // No address.
 fn closed() -> Window
-    ensures { (c : declared.Control) (map : Map) (len : ℕ) → Shows result c map len }
+    ensures { (c : declared.Control) (map : List ℕ) (len : ℕ) → Shows result c map len }
 {
     Window {
         low: 0,
@@ -40,7 +38,7 @@ pub fn covers(v: Window, a: u64) -> bool
 // All of memory, at its physical addresses. A word that begins among the last three bytes would not lie in it whole.
 fn whole(c: Control, len: u64) -> Window
     requires { (len ≤ 2 ^ 20) × (bare_of c ≡ true) }
-    ensures { (map : Map) → Shows result c map len }
+    ensures { (map : List ℕ) → Shows result c map len }
 {
     if len < 4 {
         return closed();
@@ -53,12 +51,12 @@ fn whole(c: Control, len: u64) -> Window
 }
 
 // The page of address a, if a fetch from its first address has a place, and its frame lies in memory whole.
-fn page(c: Control, a: u64, pages: &[u32], leaves: &[u64], mem: &[u8]) -> Window
+fn page(c: Control, a: u64, map: &[u64], mem: &[u8]) -> Window
     requires { (length mem.now ≤ 2 ^ 20) × (bare_of c ≡ false) }
-    ensures { Shows result c (map_of pages.now leaves.now) (length mem.now) }
+    ensures { Shows result c map.now (length mem.now) }
 {
     let low = a - a % 4096;
-    match steps::fetch(c, Virtual(low), pages, leaves, mem) {
+    match steps::fetch(c, Virtual(low), map, mem) {
         Place::At(q) => {
             let at = q.0 - BASE;
             if at + 4096 <= mem.len() as u64 {
@@ -75,12 +73,12 @@ fn page(c: Control, a: u64, pages: &[u32], leaves: &[u64], mem: &[u8]) -> Window
 }
 
 // The window that address a is in, or one that does not cover it.
-pub fn around(c: Control, a: u64, pages: &[u32], leaves: &[u64], mem: &[u8]) -> Window
+pub fn around(c: Control, a: u64, map: &[u64], mem: &[u8]) -> Window
     requires { length mem.now ≤ 2 ^ 20 }
-    ensures { Shows result c (map_of pages.now leaves.now) (length mem.now) }
+    ensures { Shows result c map.now (length mem.now) }
 {
     if control::bare(c) {
         return whole(c, mem.len() as u64);
     }
-    page(c, a, pages, leaves, mem)
+    page(c, a, map, mem)
 }

@@ -1,5 +1,5 @@
 -- The eighteen CSRs of docs/HART.md, 5.1, a row of fields each (5.5 to 5.21). Unnamed bits read zero.
-use Rattle.std.specs.Prelude.{Bool, ◌||◌, not, List, [], ◌∷◌, eqb}
+use Rattle.std.specs.Prelude.{Bool, ◌||◌, not, List, [], ◌∷◌, ℕ, eqb}
 use Rattle.word.specs.Choice.{pick}
 use Rattle.word.specs.Row.{Field, Any, Only, Place, At, row}
 use Rattle.csr_status.specs.Fields.{bit, hidden, mstatus, sstatus}
@@ -24,12 +24,18 @@ abbrev pub word : List Field
 word = row (At 0 (Any 64) ∷ [])
 
 -- MODE 0 or 8, all else in it zero; a write with another MODE changes nothing
+abbrev pub is_scheme : ℕ → Bool
+is_scheme d = eqb d 0 || eqb d 8
+
 abbrev pub satp : List Field
-satp = row (At 60 (Only 4 (λ d. eqb d 0 || eqb d 8)) ∷ [])
+satp = row (At 60 (Only 4 is_scheme) ∷ [])
 
 -- PMM 33:32: writing 1 keeps the old PMM
+abbrev pub is_pmm : ℕ → Bool
+is_pmm d = not (eqb d 1)
+
 abbrev pub pmm : Place
-pmm = At 32 (Only 2 (λ d. not (eqb d 1)))
+pmm = At 32 (Only 2 is_pmm)
 
 -- LPE 2, SSE 3, PMM
 abbrev pub envcfg : List Field

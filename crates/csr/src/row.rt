@@ -1,8 +1,8 @@
 // What a write leaves of each row but mstatus', and what a read shows. By fields and arithmetic, which the checker reads.
-ghost use Rattle.std.specs.Prelude.{◌≡◌, ◌<◌, ◌||◌, not, eqb};
+ghost use Rattle.std.specs.Prelude.{◌≡◌, ◌<◌};
 ghost use Rattle.word.specs.Choice.{pick};
 ghost use Rattle.word.specs.Row.{Only, digit, takes_of, row_write_of, row_read_of};
-ghost use Rattle.csr.specs.Row.{medeleg, word, fours, eights, satp, envcfg, envcfg_held, mseccfg};
+ghost use Rattle.csr.specs.Row.{is_pmm, is_scheme, medeleg, word, fours, eights, satp, envcfg, envcfg_held, mseccfg};
 
 use word::choice;
 
@@ -33,7 +33,7 @@ pub fn medeleg(v: u64) -> u64
 
 // PMM: writing 1 keeps the old PMM.
 fn pmm(old: u64, v: u64) -> u64
-    ensures { (result ≡ takes_of (Only 2 (λ d. not (eqb d 1))) (digit 32 2 old) (digit 32 2 v)) × (result < 4) }
+    ensures { (result ≡ takes_of (Only 2 is_pmm) (digit 32 2 old) (digit 32 2 v)) × (result < 4) }
 {
     let new = v / 0x1_0000_0000 % 4;
     choice::taken(new != 1, new, old / 0x1_0000_0000 % 4, 4)
@@ -66,7 +66,7 @@ pub fn mseccfg(old: u64, v: u64) -> u64
 
 // Whether satp's MODE can be this: Bare or Sv39.
 fn scheme(mode: u64) -> bool
-    ensures { result ≡ eqb mode 0 || eqb mode 8 }
+    ensures { result ≡ is_scheme mode }
 {
     choice::either(mode == 0, mode == 8)
 }

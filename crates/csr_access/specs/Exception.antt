@@ -2,7 +2,7 @@
 -- Rules 4.24 to 4.26 of docs/HART.md.
 use Rattle.std.specs.Prelude.{ℕ}
 use Rattle.isa.specs.declared.Mode.{Mode}
-use Rattle.isa.specs.Cases.{by_mode_of}
+use Rattle.isa.specs.declared.Mode.TheVariants.{User, Supervisor, Machine}
 use Rattle.csr_access.specs.declared.exception.Exception.{Exception}
 
 -- illegal: tval the word; the manual's cause is 2
@@ -13,6 +13,8 @@ illegal_of word = record { cause = 2; tval = word }
 abbrev pub breakpoint_of : (pc : ℕ) → Exception
 breakpoint_of pc = record { cause = 3; tval = pc }
 
--- ECALL in U, S and M: 8, 9, 11, tval 0
+-- ECALL: 8, 9, 11, tval 0
 abbrev pub ecall_of : Mode → Exception
-ecall_of m = record { cause = by_mode_of m 8 9 11; tval = 0 }
+ecall_of User = record { cause = 8; tval = 0 }
+ecall_of Supervisor = record { cause = 9; tval = 0 }
+ecall_of Machine = record { cause = 11; tval = 0 }

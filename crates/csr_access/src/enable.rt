@@ -1,7 +1,6 @@
 // What menvcfg, senvcfg and mseccfg switch on, by the mode.
 ghost use Rattle.std.specs.Prelude.{◌≡◌};
-ghost use Rattle.csr_access.specs.Enable.{sse_of, by_sse_of, shadow_of, permits_of, pad_of};
-ghost use Rattle.isa.specs.Cases.{by_mode_of};
+ghost use Rattle.csr_access.specs.Enable.{sse_of, by_sse_of, by_mode_of, shadow_of, permits_of, pad_of};
 
 use isa::Mode;
 
@@ -43,7 +42,7 @@ pub fn permits(m: Mode, menvcfg: u64, senvcfg: u64) -> bool
 }
 
 fn by_mode(m: Mode, machine: bool, supervisor: bool, user: bool) -> bool
-    ensures { result ≡ by_mode_of m user supervisor machine }
+    ensures { result ≡ by_mode_of m machine supervisor user }
 {
     match m {
         Mode::User => user,

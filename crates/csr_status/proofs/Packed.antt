@@ -5,10 +5,10 @@ use mathlib.Core.Bool.{Bool, true, false}
 use Prim.Native.Nat.{ℕ, zero, suc, ◌+◌, ◌*◌, ◌/◌, ◌%◌, ◌^◌, ◌<◌}
 use native.Mathlib.Omega.{arith}
 use lib.Dec.{eqb}
-use Rattle.word.specs.Choice.{pick, flag_of}
+use Rattle.word.specs.Choice.{pick}
 use Rattle.word.specs.Row.{row_write_of, row_read_of, row_legal_of}
 use Rattle.csr_status.specs.Fields.{is_mpp, mstatus, sstatus}
-use Rattle.csr_status.specs.Status.{status_of, status_word_of, with_mpp_of, sstatus_written_of}
+use Rattle.csr_status.specs.Status.{num, status_of, status_word_of, with_mpp_of, sstatus_written_of}
 use Rattle.csr_status.specs.declared.Status.{Status}
 use Rattle.word.proofs.Rows.{left, each, shown}
 
@@ -16,25 +16,25 @@ use Rattle.word.proofs.Rows.{left, each, shown}
 abbrev pub mstatus_written_of : (old v : Status) → Status
 mstatus_written_of old v = with_mpp_of v (pick (is_mpp v.mpp) v.mpp old.mpp)
 
-parity : (d : ℕ) → d < 2 → flag_of (eqb d 1) ≡ d
+parity : (d : ℕ) → d < 2 → num (eqb d 1) ≡ d
 parity zero h = refl
 parity (suc zero) h = refl
 parity (suc (suc d)) h = absurd (omega arith)
 
-flag_bit : (x : ℕ) → flag_of (eqb (x % 2) 1) ≡ x % 2
-flag_bit x = parity (x % 2) (omega arith)
+num_bit : (x : ℕ) → num (eqb (x % 2) 1) ≡ x % 2
+num_bit x = parity (x % 2) (omega arith)
 
 -- a write of the word is a write of the struct
 pub merges : (old v : ℕ) → row_write_of mstatus old v ≡ status_word_of (mstatus_written_of (status_of old) (status_of v))
-merges old v = simp flag_bit (omega arith)
+merges old v = simp num_bit (omega arith)
 
 -- so is a write through sstatus
 pub views : (old v : ℕ) → row_write_of sstatus old v ≡ status_word_of (sstatus_written_of (status_of old) (status_of v))
-views old v = simp flag_bit (omega arith)
+views old v = simp num_bit (omega arith)
 
 -- a read of the word is a read of the struct
 pub shows : (m : ℕ) → row_read_of mstatus m ≡ status_word_of (status_of m)
-shows m = simp flag_bit (omega arith)
+shows m = simp num_bit (omega arith)
 
 -- as the code goes
 pub written : (old v mode w : ℕ) (s t : Status) → s ≡ status_of v → mode ≡ (mstatus_written_of (status_of old) (status_of v)).mpp → t ≡ with_mpp_of s mode → w
@@ -60,11 +60,11 @@ module _ (a b c d e p f g h i j : ℕ) (ha : a < 2) (hb : b < 2) (hc : c < 2) (h
   digits =
       (omega arith, omega arith, omega arith, omega arith, omega arith, omega arith, omega arith, omega arith, omega arith, omega arith, omega arith)
 
-small : (b : Bool) → flag_of b < 2
+small : (b : Bool) → num b < 2
 small true = omega arith
 small false = omega arith
 
-read : (b : Bool) → eqb (flag_of b) 1 ≡ b
+read : (b : Bool) → eqb (num b) 1 ≡ b
 read true = refl
 read false = refl
 
@@ -72,9 +72,9 @@ read false = refl
 pub unpacked : (s : Status) → s.mpp < 4 → status_of (status_word_of s) ≡ s
 unpacked s l =
     let (a, b, c, d, e, p, f, g, h, i, j) =
-    digits (flag_of s.sie) (flag_of s.mie) (flag_of s.spie) (flag_of s.mpie) (flag_of s.spp) s.mpp (flag_of s.mprv) (flag_of s.sum) (flag_of s.mxr)
-    (flag_of s.spelp)
-    (flag_of s.mpelp) (small s.sie) (small s.mie) (small s.spie) (small s.mpie) (small s.spp) l (small s.mprv) (small s.sum)
+    digits (num s.sie) (num s.mie) (num s.spie) (num s.mpie) (num s.spp) s.mpp (num s.mprv) (num s.sum) (num s.mxr)
+    (num s.spelp)
+    (num s.mpelp) (small s.sie) (small s.mie) (small s.spie) (small s.mpie) (small s.spp) l (small s.mprv) (small s.sum)
     (small s.mxr) (small s.spelp) (small s.mpelp) in
     rw (a, b, c, d, e, p, f, g, h, i, j) (simp read)
 

@@ -1,8 +1,11 @@
 -- mstatus as a struct of its fields, and what a write makes of it. Rules 5.5 to 5.8 of docs/HART.md.
-use Rattle.std.specs.Prelude.{ℕ, ◌+◌, ◌*◌, ◌/◌, ◌%◌, ◌^◌}
-use Rattle.word.specs.Choice.{flag_of}
+use Rattle.std.specs.Prelude.{Bool, true, false, ℕ, ◌+◌, ◌*◌, ◌/◌, ◌%◌, ◌^◌}
 use Rattle.word.specs.Row.{bit_of}
 use Rattle.csr_status.specs.declared.Status.{Status}
+
+abbrev pub num : Bool → ℕ
+num true = 1
+num false = 0
 
 abbrev pub status_of : ℕ → Status
 status_of m = record {
@@ -22,9 +25,9 @@ status_of m = record {
 -- UXL and SXL read 2
 abbrev pub status_word_of : Status → ℕ
 status_word_of s =
-    flag_of s.sie * 2 ^ 1 + flag_of s.mie * 2 ^ 3 + flag_of s.spie * 2 ^ 5 + flag_of s.mpie * 2 ^ 7
-    + flag_of s.spp * 2 ^ 8 + s.mpp * 2 ^ 11 + flag_of s.mprv * 2 ^ 17 + flag_of s.sum * 2 ^ 18
-    + flag_of s.mxr * 2 ^ 19 + flag_of s.spelp * 2 ^ 23 + 2 * 2 ^ 32 + 2 * 2 ^ 34 + flag_of s.mpelp * 2 ^ 41
+    num s.sie * 2 ^ 1 + num s.mie * 2 ^ 3 + num s.spie * 2 ^ 5 + num s.mpie * 2 ^ 7 + num s.spp * 2 ^ 8 + s.mpp * 2 ^ 11
+    + num s.mprv * 2 ^ 17 + num s.sum * 2 ^ 18 + num s.mxr * 2 ^ 19 + num s.spelp * 2 ^ 23 + 2 * 2 ^ 32 + 2 * 2 ^ 34 + num
+    s.mpelp * 2 ^ 41
 
 abbrev pub with_mpp_of : Status → ℕ → Status
 with_mpp_of s mode = record {

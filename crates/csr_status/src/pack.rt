@@ -1,7 +1,6 @@
 // The struct of mstatus' fields from its word, and the word from the struct.
 ghost use Rattle.std.specs.Prelude.{◌≡◌, ◌<◌};
-ghost use Rattle.csr_status.specs.Status.{status_of, status_word_of};
-ghost use Rattle.word.specs.Choice.{flag_of};
+ghost use Rattle.csr_status.specs.Status.{num, status_of, status_word_of};
 
 use super::Status;
 
@@ -24,7 +23,7 @@ pub fn split(m: u64) -> Status
 }
 
 fn bit(b: bool) -> u64
-    ensures { (result ≡ flag_of b) × (result < 2) }
+    ensures { (result ≡ num b) × (result < 2) }
 {
     if b { 1 } else { 0 }
 }

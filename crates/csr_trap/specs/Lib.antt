@@ -1,4 +1,3 @@
-pub mod Halves
 pub mod Trap
 pub mod Return
 pub mod Route

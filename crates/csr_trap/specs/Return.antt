@@ -5,18 +5,41 @@ use Rattle.isa.specs.declared.Mode.{Mode}
 use Rattle.isa.specs.declared.Mode.TheVariants.{User, Supervisor}
 use Rattle.csr_status.specs.Mode.{mode_of}
 use Rattle.csr_status.specs.Status.{status_of, status_word_of}
-use Rattle.csr_trap.specs.Halves.{with_m, with_s}
 use Rattle.csr_status.specs.declared.Status.{Status}
 
 -- MRET takes the enable back from MPIE, and by the manual leaves MPIE 1 and MPP U; it clears the saved ELP, and MPRV if the
 -- new mode isn't M
 abbrev pub returned_m_of : Status → Status
-returned_m_of s = with_m s (record { mie = s.mpie; mpie = true; mpp = 0; mpelp = false; mprv = eqb s.mpp 3 && s.mprv })
+returned_m_of s = record {
+  sie = s.sie;
+  mie = s.mpie;
+  spie = s.spie;
+  mpie = true;
+  spp = s.spp;
+  mpp = 0;
+  mprv = eqb s.mpp 3 && s.mprv;
+  sum = s.sum;
+  mxr = s.mxr;
+  spelp = s.spelp;
+  mpelp = false;
+}
 
 -- SRET takes the enable back from SPIE, and by the manual leaves SPIE 1 and SPP U; it clears the saved ELP, and MPRV,
 -- since the new mode is never M
 abbrev pub returned_s_of : Status → Status
-returned_s_of s = with_s s (record { sie = s.spie; spie = true; spp = false; spelp = false; mprv = false })
+returned_s_of s = record {
+  sie = s.spie;
+  mie = s.mie;
+  spie = true;
+  mpie = s.mpie;
+  spp = false;
+  mpp = s.mpp;
+  mprv = false;
+  sum = s.sum;
+  mxr = s.mxr;
+  spelp = false;
+  mpelp = s.mpelp;
+}
 
 -- the same of the word, which is what a hart holds
 unfoldable pub leave_m_of : ℕ → ℕ

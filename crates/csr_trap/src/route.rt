@@ -1,14 +1,13 @@
 // Whether a trap goes to S or to M.
 ghost use Rattle.std.specs.Prelude.{◌≡◌};
-ghost use Rattle.csr_trap.specs.Route.{to_s_of};
-ghost use Rattle.word.specs.Row.{bit_of};
+ghost use Rattle.csr_trap.specs.Route.{delegated_of, to_s_of};
 
 use isa::Mode;
 use word::shift;
 
 // The cause's bit of medeleg.
 pub fn delegated(medeleg: u64, cause: u64) -> bool
-    ensures { result ≡ bit_of medeleg cause }
+    ensures { result ≡ delegated_of medeleg cause }
 {
     if cause < 64 {
         return shift::right(medeleg, cause) % 2 == 1;

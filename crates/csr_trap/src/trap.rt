@@ -1,7 +1,6 @@
 // mstatus after a trap.
-ghost use Rattle.std.specs.Prelude.{true, false, ◌≡◌};
-ghost use Rattle.isa.specs.Cases.{by_mode_of};
-ghost use Rattle.csr_trap.specs.Trap.{trapped_m_of, trapped_s_of, enter_m_of, enter_s};
+ghost use Rattle.std.specs.Prelude.{◌≡◌};
+ghost use Rattle.csr_trap.specs.Trap.{is_supervisor_of, trapped_m_of, trapped_s_of, enter_m_of, enter_s};
 
 use csr_status::{Status, mode, pack};
 use isa::Mode;
@@ -44,7 +43,7 @@ fn trapped_s(s: Status, supervisor: bool, elp: bool) -> Status
 }
 
 fn is_supervisor(m: Mode) -> bool
-    ensures { result ≡ by_mode_of m false true false }
+    ensures { result ≡ is_supervisor_of m }
 {
     match m {
         Mode::User => false,

@@ -8,20 +8,18 @@ use Prim.Native.Nat.{ℕ}
 use native.Mathlib.Omega.{arith}
 use lib.ListN.{length, length-set}
 use lib.Seq.{get_or-set_same, get_or-set_other}
-use Rattle.isa.specs.Cases.{by_mode_of}
-use Rattle.word.specs.Row.{bit_of}
-use Rattle.word.specs.Choice.{pick, flag_of}
+use Rattle.word.specs.Choice.{pick}
 use Rattle.word.proofs.Choices.{first, second}
 use Rattle.isa.specs.declared.Mode.{Mode}
 use Rattle.csr_status.specs.Mode.{mode_of, number_of}
 use Rattle.csr_status.specs.Status.{status_of}
 use Rattle.csr_status.specs.declared.Status.{Status}
-use Rattle.csr_trap.specs.Route.{to_s_of}
-use Rattle.csr_trap.specs.Trap.{trapped_m_of, trapped_s_of, enter_m_of, enter_s}
+use Rattle.csr_trap.specs.Route.{to_s_of, delegated_of}
+use Rattle.csr_trap.specs.Trap.{is_supervisor_of, trapped_m_of, trapped_s_of, enter_m_of, enter_s}
 use Rattle.csr_trap.specs.Return.{returned_m_of, returned_s_of, leave_m_of, leave_s}
 use Rattle.csr_trap.proofs.Crossed.{enter_m_fields, enter_s_fields, leave_m_fields, leave_s_fields}
 use Rattle.csr_access.specs.Enable.{pad_of}
-use Rattle.csr_words.specs.Words.{◌of◌, ◌but◌≔◌, expected, COUNT, PC, MODE, ELP, SENVCFG, SEPC, SCAUSE, STVAL, MSTATUS, MEDELEG, MENVCFG}
+use Rattle.csr_words.specs.Words.{◌of◌, ◌but◌≔◌, expected, flag_of, COUNT, PC, MODE, ELP, SENVCFG, SEPC, SCAUSE, STVAL, MSTATUS, MEDELEG, MENVCFG}
 use Rattle.csr_words.specs.Words.{MEPC, MCAUSE, MTVAL, MSECCFG}
 use Rattle.csr_words.specs.Trap.{trap_m, trap_s, trap_of}
 use Rattle.csr_words.specs.Return.{back_in, mret_of, sret_of}
@@ -48,7 +46,7 @@ module _ (w : List ℕ) (cause tval : ℕ) where
 
   -- where a trap goes
   abbrev goes_to_s : Bool
-  goes_to_s = to_s_of (mode_of (MODE of w)) (bit_of (MEDELEG of w) cause)
+  goes_to_s = to_s_of (mode_of (MODE of w)) (delegated_of (MEDELEG of w) cause)
 
   pub to_m_lem : goes_to_s ≡ false → trap_of w cause tval ≡ trap_m w cause tval
   unfolding trap_of
@@ -120,7 +118,7 @@ module _ (w : List ℕ) (size : length w ≡ COUNT) where
         ap status_of (stored m _ _ (also PC _ (also MODE _ (also ELP _ (also MTVAL _ (also MCAUSE _ (also MEPC _ (none (w but MSTATUS ≔ m)))))))) refl)
         ∙ enter_m_fields (MSTATUS of w) (mode_of (MODE of w)) (expected w)
 
-    pub trap_s_fields : status_in (trap_s w cause tval) ≡ trapped_s_of (status_in w) (by_mode_of (mode_of (MODE of w)) false true false) (expected w)
+    pub trap_s_fields : status_in (trap_s w cause tval) ≡ trapped_s_of (status_in w) (is_supervisor_of (mode_of (MODE of w))) (expected w)
     unfolding trap_s
     trap_s_fields =
         let m : ℕ = enter_s (MSTATUS of w) (mode_of (MODE of w)) (expected w) in

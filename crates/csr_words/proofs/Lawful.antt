@@ -11,8 +11,8 @@ use lib.Dec.{eqb, ltb}
 use lib.ListN.{length, replicate, length-set}
 use lib.Seq.{get_or-set_same}
 use borrow.Author.Tests.{eq-eqb, eqb-true}
-use Rattle.word.specs.Choice.{Table, ◌⇒◌¦◌, otherwise, pick, look, flag_of}
-use Rattle.word.specs.Row.{Fixed, Any, row_write_of, row_legal_of, bit_of}
+use Rattle.word.specs.Choice.{Table, ◌⇒◌¦◌, otherwise, pick, look}
+use Rattle.word.specs.Row.{Fixed, Any, row_write_of, row_legal_of}
 use Rattle.word.proofs.Bools.{both}
 use Rattle.word.proofs.Rows.{all_seen_of, left, kept}
 use Rattle.word.proofs.Tables.{every, checked}
@@ -27,9 +27,9 @@ use Rattle.csr.specs.declared.Csr.TheVariants.{Mscratch, Mepc, Mcause, Mtval, Ms
 use Rattle.csr.proofs.Made.{is_view, all_fit_lem, all_seen, sixty_four, alike}
 use Rattle.csr_access.specs.Enable.{sse_of, pad_of}
 use Rattle.csr_setting.specs.Legal.{is_mode_of}
-use Rattle.csr_trap.specs.Route.{to_s_of}
+use Rattle.csr_trap.specs.Route.{to_s_of, delegated_of}
 use Rattle.csr_trap.proofs.Crossed.{enter_m_legal, enter_s_legal, leave_m_legal, leave_s_legal}
-use Rattle.csr_words.specs.Words.{◌of◌, ◌but◌≔◌, csr_slot_of, expected, COUNT, PC, MODE, ELP, SSP, STVEC, SENVCFG, SEPC, SCAUSE, STVAL, SATP}
+use Rattle.csr_words.specs.Words.{◌of◌, ◌but◌≔◌, csr_slot_of, flag_of, expected, COUNT, PC, MODE, ELP, SSP, STVEC, SENVCFG, SEPC, SCAUSE, STVAL, SATP}
 use Rattle.csr_words.specs.Words.{MSTATUS, MEDELEG, MTVEC, MENVCFG, MEPC, MCAUSE, MTVAL, MSECCFG}
 use Rattle.csr_words.specs.Warl.{written_of, csr_write_of}
 use Rattle.csr_words.specs.Legal.{holds, held, words_legal}
@@ -88,7 +88,7 @@ pub put : (k v : ℕ) {w : List ℕ} → fits k v ≡ true → Lawful w → Lawf
 put k v {w} t l = record { size = rw length-set l.size; fit = stored fits w k v t l.fit }
 
 -- pc and ssp, as their rows have them
-low_row : (n k m : ℕ) → row_legal_of (Fixed n 0 0 ∷ Any k ∷ []) m ≡ eqb (m % 2 ^ n) 0
+low_row : (n k m : ℕ) → row_legal_of (Fixed n 0 ∷ Any k ∷ []) m ≡ eqb (m % 2 ^ n) 0
 low_row n k m = rw (div-one, and_true (eqb (m % 2 ^ n) 0))
 
 pub pc_four : (w : List ℕ) → Lawful w → PC of w % 4 ≡ 0
@@ -160,7 +160,7 @@ module _ (w : List ℕ) (cause tval : ℕ) (l : Lawful w) where
 
   pub trap_lawful : Lawful (trap_of w cause tval)
   unfolding trap_of
-  trap_lawful = either (to_s_of (mode_of (MODE of w)) (bit_of (MEDELEG of w) cause))
+  trap_lawful = either (to_s_of (mode_of (MODE of w)) (delegated_of (MEDELEG of w) cause))
 
 -- the returns
 number_mode : (m : Mode) → is_mode_of (number_of m) ≡ true

@@ -5,14 +5,15 @@ use Rattle.csr_status.specs.Mode.{number_of}
 use Rattle.csr_status.specs.Status.{status_of}
 use Rattle.csr_trap.specs.Return.{leave_m_of, leave_s, mpp_mode_of, spp_mode_of}
 use Rattle.csr_access.specs.Enable.{pad_of}
-use Rattle.csr_words.specs.Words.{◌of◌, ◌but◌≔◌, PC, MODE, ELP, SEPC, MSTATUS, MEPC, MENVCFG, SENVCFG, MSECCFG}
-use Rattle.word.specs.Choice.{flag_of}
+use Rattle.csr_words.specs.Words.{◌of◌, ◌but◌≔◌, flag_of, PC, MODE, ELP, SEPC, MSTATUS, MEPC, MENVCFG, SENVCFG, MSECCFG}
 
 -- in mode `new` at `to`, with mstatus m; the saved ELP if the new mode's pad enable is set, else 0
 unfoldable pub back_in : (w : List ℕ) → (new : Mode) → (saved : Bool) → (m to : ℕ) → List ℕ
 back_in w new saved m to =
     w but ELP ≔ flag_of (pad_of new (MENVCFG of w) (SENVCFG of w) (MSECCFG of w) && saved)
-    but MODE ≔ number_of new but MSTATUS ≔ m but PC ≔ to
+    but MODE ≔ number_of new
+    but MSTATUS ≔ m
+    but PC ≔ to
 
 -- MRET: to MPP at mepc, with MPELP
 unfoldable pub mret_of : (w : List ℕ) → List ℕ

@@ -9,6 +9,9 @@ use Rattle.isa.specs.declared.Instruction.{Instruction}
 use Rattle.isa.specs.declared.Instruction.TheVariants.{Illegal, Memory, ReadSsp, MopR, MopRr}
 
 -- funct7 of an AMO word is funct5, aq and rl. Swap: funct5 01001, funct3 010 or 011, any aq and rl
+abbrev pub amo_key : Fields → ℕ
+amo_key f = f.funct7 / 4 * 8 + f.funct3
+
 abbrev pub aq : Fields → Bool
 aq f = eqb (f.funct7 / 2 % 2) 1
 
@@ -22,25 +25,36 @@ swaps f =
     ¦ otherwise Illegal
 
 unfoldable pub swap_of : Fields → Instruction
-swap_of f = look (f.funct7 / 4 * 8 + f.funct3) (swaps f)
+swap_of f = look (amo_key f) (swaps f)
 
--- MOP.RR.n: bits 31:25 are 1 n[2] 00 n[1:0] 1; the key is those that are no n, side by side
+-- MOP.RR.n: bits 31:25 are 1 n[2] 00 n[1:0] 1
+abbrev pub mop_rr_key : ℕ → ℕ
+mop_rr_key w = bits w 31 31 * 2 ^ 3 + bits w 29 28 * 2 + bits w 25 25
+
 abbrev pub mop_rrs : ℕ → Fields → Table Instruction
 mop_rrs w f =
     0b1_00_1 ⇒ MopRr (bits w 30 30 * 2 ^ 2 + bits w 27 26) f.rd f.rs1 f.rs2
     ¦ otherwise Illegal
 
--- MOP.R.n: bits 31:20 are 1 n[4] 00 n[3:2] 0111 n[1:0]; its key likewise
+-- MOP.R.n: bits 31:20 are 1 n[4] 00 n[3:2] 0111 n[1:0]
+abbrev pub mop_r_key : ℕ → ℕ
+mop_r_key w = bits w 31 31 * 2 ^ 6 + bits w 29 28 * 2 ^ 4 + bits w 25 22
+
 abbrev pub mop_rs : ℕ → Fields → Table Instruction
 mop_rs w f =
     0b1_00_0111 ⇒ MopR (bits w 30 30 * 2 ^ 4 + bits w 27 26 * 2 ^ 2 + bits w 21 20) f.rd f.rs1
-    ¦ otherwise (look (bits w 31 31 * 2 ^ 3 + bits w 29 28 * 2 + bits w 25 25) (mop_rrs w f))
+    ¦ otherwise (look (mop_rr_key w) (mop_rrs w f))
 
 unfoldable pub mop_of : ℕ → Fields → Instruction
-mop_of w f = look (bits w 31 31 * 2 ^ 6 + bits w 29 28 * 2 ^ 4 + bits w 25 22) (mop_rs w f)
+mop_of w f = look (mop_r_key w) (mop_rs w f)
 
--- push of x1 and of x5, pop-check of x1 and of x5; 0xCDC04073 with rd not 0 in bits 11:7 reads ssp; other Zimop words are the plain
--- operations
+-- 0xCDC04073 with rd not 0 in bits 11:7 reads ssp; other Zimop words are the plain operations
+abbrev pub reads : ℕ → Fields → Table Instruction
+reads w f =
+    0xCDC04073 ⇒ ReadSsp f.rd
+    ¦ otherwise (mop_of w f)
+
+-- push of x1 and of x5, pop-check of x1 and of x5
 abbrev pub zimops : ℕ → Fields → Table Instruction
 zimops w f =
     0xCE104073 ⇒ Memory Push 0 0 1 0
@@ -48,7 +62,7 @@ zimops w f =
     ¦ 0x_cdc0_c073 ⇒ Memory Pop 0 1 0 0
     ¦ 0x_cdc2_c073 ⇒ Memory Pop 0 5 0 0
     ¦ 0xCDC04073 ⇒ mop_of w f
-    ¦ otherwise (look (w - bits w 11 7 * 2 ^ 7) (0xCDC04073 ⇒ ReadSsp f.rd ¦ otherwise (mop_of w f)))
+    ¦ otherwise (look (w - bits w 11 7 * 2 ^ 7) (reads w f))
 
 unfoldable pub zimop_of : ℕ → Fields → Instruction
 zimop_of w f = look w (zimops w f)

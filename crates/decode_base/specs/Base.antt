@@ -18,8 +18,13 @@ abbrev pub functs : Fields → ℕ
 functs f = f.funct7 * 8 + f.funct3
 
 -- JALR
+abbrev pub jalrs : Fields → ℕ → Table Instruction
+jalrs f o =
+    0b000 ⇒ Jalr f.rd f.rs1 o
+    ¦ otherwise Illegal
+
 unfoldable pub decode_jalr_of : Fields → ℕ → Instruction
-decode_jalr_of f o = look f.funct3 (0b000 ⇒ Jalr f.rd f.rs1 o ¦ otherwise Illegal)
+decode_jalr_of f o = look f.funct3 (jalrs f o)
 
 -- BRANCH: BEQ, BNE, BLT, BGE, BLTU, BGEU
 abbrev pub branches : Fields → ℕ → Table Instruction
@@ -89,6 +94,9 @@ unfoldable pub count_word_of : Fields → Instruction
 count_word_of f = look (count_key f) (count_words_of f)
 
 -- SLLI, SRLI, SRAI: bits 31:26 before funct3, and the amount in bits 25:20
+abbrev pub shift_key : Fields → ℕ
+shift_key f = f.funct7 / 2 * 8 + f.funct3
+
 abbrev pub shift_amount : Fields → ℕ
 shift_amount f = f.funct7 % 2 * 32 + f.rs2
 
@@ -100,7 +108,7 @@ shifts f =
     ¦ otherwise (count_of f)
 
 unfoldable pub shift_of : Fields → Instruction
-shift_of f = look (f.funct7 / 2 * 8 + f.funct3) (shifts f)
+shift_of f = look (shift_key f) (shifts f)
 
 -- OP-IMM: ADDI, SLTI, SLTIU, XORI, ORI, ANDI and the shifts
 abbrev pub op_imms : Fields → ℕ → Table Instruction
@@ -127,8 +135,13 @@ word_shifts_of f =
 unfoldable pub word_shift_of : Fields → Instruction
 word_shift_of f = look (functs f) (word_shifts_of f)
 
+abbrev pub op_imm32s : Fields → ℕ → Table Instruction
+op_imm32s f i =
+    0b000 ⇒ OpImm32 Addw f.rd f.rs1 i
+    ¦ otherwise (word_shift_of f)
+
 unfoldable pub op_imm32_of : Fields → ℕ → Instruction
-op_imm32_of f i = look f.funct3 (0b000 ⇒ OpImm32 Addw f.rd f.rs1 i ¦ otherwise (word_shift_of f))
+op_imm32_of f i = look f.funct3 (op_imm32s f i)
 
 -- MUL, MULH, MULHSU, MULHU, DIV, DIVU, REM, REMU of M; MIN, MINU, MAX, MAXU of Zbb
 abbrev pub extensions : Fields → Table Instruction
@@ -195,5 +208,10 @@ unfoldable pub op32_of : Fields → Instruction
 op32_of f = look (functs f) (op32s f)
 
 -- MISC-MEM: FENCE, with any fields
+abbrev pub misc_mems : ℕ → Fields → Table Instruction
+misc_mems w f =
+    0b000 ⇒ Fence (bits w 31 28) (bits w 27 24) (bits w 23 20) f.rs1 f.rd
+    ¦ otherwise Illegal
+
 unfoldable pub misc_mem_of : ℕ → Fields → Instruction
-misc_mem_of w f = look f.funct3 (0b000 ⇒ Fence (bits w 31 28) (bits w 27 24) (bits w 23 20) f.rs1 f.rd ¦ otherwise Illegal)
+misc_mem_of w f = look f.funct3 (misc_mems w f)

@@ -12,12 +12,11 @@ use Rattle.isa.specs.declared.Instruction.{Instruction}
 use Rattle.isa.specs.declared.Instruction.TheVariants.{Illegal, Lui, Auipc, Jal, Jalr, Branch, Memory, OpImm, OpImm32, Op, Op32, Fence, Ecall}
 use Rattle.isa.specs.declared.Instruction.TheVariants.{Ebreak, Sret, Mret, Csr, ReadSsp, MopR, MopRr}
 use Rattle.decode_numbers.specs.declared.Eight.{Eight}
-use Rattle.decode_numbers.specs.Numbers.{numbers_of}
-use Rattle.word.specs.Choice.{flag_of}
+use Rattle.decode_numbers.specs.Numbers.{ordering_bit, numbers_of}
 use Rattle.decode_numbers.proofs.Keys.{condition_at, condition_again, operation_at, operation_again, word_operation_at, word_operation_again, width_at}
 use Rattle.decode_numbers.proofs.Keys.{width_again, load_at_of, load_again, swap_at, swap_again, csr_at, csr_again}
 
-flag_again : (b : Bool) → eqb (flag_of b) 1 ≡ b
+flag_again : (b : Bool) → eqb (ordering_bit b) 1 ≡ b
 flag_again true = refl
 flag_again false = refl
 

@@ -22,7 +22,7 @@ use Rattle.isa.specs.declared.CsrSource.TheVariants.{Register, Immediate}
 use Rattle.isa.specs.declared.Instruction.{Instruction}
 use Rattle.isa.specs.declared.Instruction.TheVariants.{Csr}
 use Rattle.decode_numbers.specs.Key.{condition_key, operation_key, word_operation_key, width_key, load_key, swap_key, csr_key}
-use Rattle.isa.specs.Cases.{source_of}
+use Rattle.decode_numbers.specs.Numbers.{source_of}
 
 pub condition_at : ℕ → Condition
 condition_at n =

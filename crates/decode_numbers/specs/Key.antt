@@ -1,6 +1,6 @@
 -- The number of an operation, as the manual's listings print it: funct7, then rs2, then funct3, with 0 for what is an operand.
 -- Rule 12.3 of docs/HART.md.
-use Rattle.std.specs.Prelude.{Bool, true, false, ℕ, ◌+◌}
+use Rattle.std.specs.Prelude.{Bool, true, false, ℕ}
 use Rattle.isa.specs.declared.Width.{Width}
 use Rattle.isa.specs.declared.Width.TheVariants.{Byte, Half, Word, Double}
 use Rattle.isa.specs.declared.Condition.{Condition}
@@ -75,11 +75,17 @@ width_key Double = 0b011
 -- there is no LDU: 0b111 is no load's number
 abbrev pub load_key : Width → Bool → ℕ
 load_key w true = width_key w
-load_key w false = 0b100 + width_key w
+load_key Byte false = 0b100
+load_key Half false = 0b101
+load_key Word false = 0b110
+load_key Double false = 0b111
 
 -- funct5 is 01001; aq and rl are operands, and there is no swap of a byte or of a half
 abbrev pub swap_key : Width → ℕ
-swap_key w = 0b0100100_00000_000 + width_key w
+swap_key Byte = 0b0100100_00000_000
+swap_key Half = 0b0100100_00000_001
+swap_key Word = 0b0100100_00000_010
+swap_key Double = 0b0100100_00000_011
 
 abbrev pub csr_key : CsrOperation → CsrSource → ℕ
 csr_key Write (Register r) = 0b001

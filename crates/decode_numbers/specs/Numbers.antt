@@ -1,10 +1,10 @@
 -- A decoded instruction as eight numbers, one layout for all families: the family, its operation, rd, rs1, rs2, the immediate, and two
 -- for what is left. What a family does not have is 0. include/sporhulma.h explains them for C. Rules 12.2 and 12.4 of docs/HART.md.
-use Rattle.std.specs.Prelude.{ℕ}
-use Rattle.word.specs.Choice.{flag_of}
-use Rattle.isa.specs.Cases.{source_of}
+use Rattle.std.specs.Prelude.{Bool, true, false, ℕ}
 use Rattle.isa.specs.declared.Access.{Access}
 use Rattle.isa.specs.declared.Access.TheVariants.{Load, Store, Push, Pop, Swap}
+use Rattle.isa.specs.declared.CsrSource.{CsrSource}
+use Rattle.isa.specs.declared.CsrSource.TheVariants.{Register, Immediate}
 use Rattle.isa.specs.declared.Instruction.{Instruction}
 use Rattle.isa.specs.declared.Instruction.TheVariants.{Illegal, Lui, Auipc, Jal, Jalr, Branch, Memory, OpImm, OpImm32, Op, Op32, Fence, Ecall}
 use Rattle.isa.specs.declared.Instruction.TheVariants.{Ebreak, Sret, Mret, Csr, ReadSsp, MopR, MopRr}
@@ -12,7 +12,17 @@ use Rattle.decode_numbers.specs.declared.Eight.{Eight}
 use Rattle.decode_numbers.specs.Key.{condition_key, operation_key, word_operation_key, width_key, load_key, swap_key, csr_key}
 
 abbrev pub eight_of : (family operation rd rs1 rs2 immediate first second : ℕ) → Eight
-eight_of f o d a b i p q = record { family = f; operation = o; rd = d; rs1 = a; rs2 = b; immediate = i; first = p; second = q }
+eight_of f o d a b i p q =
+    record { family = f; operation = o; rd = d; rs1 = a; rs2 = b; immediate = i; first = p; second = q }
+
+-- bits 19:15 of a CSR instruction: a register's number, or the number itself
+abbrev pub source_of : CsrSource → ℕ
+source_of (Register r) = r
+source_of (Immediate n) = n
+
+abbrev pub ordering_bit : Bool → ℕ
+ordering_bit true = 1
+ordering_bit false = 0
 
 -- a swap's aq and rl are the two that are left
 abbrev pub access_numbers : Access → ℕ → ℕ → ℕ → ℕ → Eight
@@ -20,7 +30,7 @@ access_numbers (Load w signed) d a b o = eight_of 6 (load_key w signed) d a b o 
 access_numbers (Store w) d a b o = eight_of 7 (width_key w) d a b o 0 0
 access_numbers Push d a b o = eight_of 19 0 d a b o 0 0
 access_numbers Pop d a b o = eight_of 20 0 d a b o 0 0
-access_numbers (Swap w aq rl) d a b o = eight_of 21 (swap_key w) d a b o (flag_of aq) (flag_of rl)
+access_numbers (Swap w aq rl) d a b o = eight_of 21 (swap_key w) d a b o (ordering_bit aq) (ordering_bit rl)
 
 -- FENCE's operation is fm, and pred and succ are left; a CSR instruction's CSR is left; the operation of MOP.R.n and MOP.RR.n is n
 abbrev pub numbers_of : Instruction → Eight

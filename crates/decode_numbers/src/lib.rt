@@ -1,9 +1,7 @@
 // A decoded instruction as eight numbers, one layout for all families: what a host writes by hand, and what is compared to see
 // whether two instructions are the same. What a family does not have is 0.
 ghost use Rattle.std.specs.Prelude.{◌≡◌};
-ghost use Rattle.decode_numbers.specs.Numbers.{eight_of, access_numbers, numbers_of};
-ghost use Rattle.isa.specs.Cases.{source_of};
-ghost use Rattle.word.specs.Choice.{flag_of};
+ghost use Rattle.decode_numbers.specs.Numbers.{eight_of, source_of, ordering_bit, access_numbers, numbers_of};
 
 use isa::{Access, CsrSource, Instruction};
 
@@ -56,7 +54,7 @@ fn source(s: CsrSource) -> u8
 }
 
 fn flag(b: bool) -> u64
-    ensures { result ≡ flag_of b }
+    ensures { result ≡ ordering_bit b }
 {
     if b { 1 } else { 0 }
 }

@@ -1,17 +1,15 @@
 -- What a word of RV64I reads as packs to that word again: along the tables of crate `decode_base`, a law a format.
 -- Assumes nothing.
 use mathlib.Core.Path.{◌≡◌, refl, sym}
-use Prim.Native.Nat.{ℕ, ◌+◌, ◌*◌, ◌/◌, ◌%◌, ◌^◌, ◌<◌}
+use Prim.Native.Nat.{ℕ, ◌+◌, ◌*◌, ◌%◌, ◌^◌, ◌<◌}
 use native.Mathlib.Omega.{arith}
 use Rattle.word.specs.Field.{bits, opcode, fields_of}
 use Rattle.word.specs.Immediate.{imm_i_of, imm_s_of, imm_b_of}
-use Rattle.decode_base.specs.Base.{decode_jalr_of, decode_branch_of, branches, decode_load_of, loads, decode_store_of, stores, count_of, counts, count_word_of, count_words_of, shift_of}
-use Rattle.decode_base.specs.Base.{shifts, op_imm_of, op_imms, word_shift_of, word_shifts_of, op_imm32_of, extension_of, extensions, op_of, ops, extension32_of}
-use Rattle.decode_base.specs.Base.{extension32s, op32_of, op32s, misc_mem_of, functs, count_key}
+use Rattle.decode_base.specs.Base.{decode_jalr_of, jalrs, decode_branch_of, branches, decode_load_of, loads, decode_store_of, stores, count_of, counts, count_word_of, count_words_of, shift_of}
+use Rattle.decode_base.specs.Base.{shifts, op_imm_of, op_imms, word_shift_of, word_shifts_of, op_imm32_of, op_imm32s, extension_of, extensions, op_of, ops, extension32_of}
+use Rattle.decode_base.specs.Base.{extension32s, op32_of, op32s, misc_mem_of, misc_mems, functs, shift_key, count_key}
 use Rattle.isa.specs.declared.Instruction.{Instruction}
-use Rattle.isa.specs.declared.Instruction.TheVariants.{Illegal, Jalr, OpImm32, Fence}
-use Rattle.isa.specs.declared.WordOperation.TheVariants.{Addw}
-use Rattle.word.specs.Choice.{◌⇒◌¦◌, otherwise}
+use Rattle.isa.specs.declared.Instruction.TheVariants.{Illegal}
 use Rattle.decode_numbers.specs.Numbers.{numbers_of}
 use Rattle.decode_writer.specs.Pack.{pack_of, system_pack_of, fence_bits}
 use Rattle.word.proofs.Tables.{looked, ◌and◌}
@@ -34,7 +32,7 @@ module _ (w : ℕ) (h : w < 2 ^ 32) where
   pub jalr_back : 0b1100111 ≡ opcode w → Back w (decode_jalr_of (fields_of w) (imm_i_of w))
   unfolding decode_jalr_of pack_of
   jalr_back o =
-      looked (Back w) (bits w 14 12) (0b000 ⇒ Jalr (bits w 11 7) (bits w 19 15) (imm_i_of w) ¦ otherwise Illegal)
+      looked (Back w) (bits w 14 12) (jalrs (fields_of w) (imm_i_of w))
       ((λ e n. imm-back w h 0b1100111 0 o (sym e) refl) and
       none w)
 
@@ -85,7 +83,7 @@ module _ (w : ℕ) (h : w < 2 ^ 32) where
   shifts_back : 0b0010011 ≡ opcode w → Back w (shift_of (fields_of w))
   unfolding shift_of pack_of
   shifts_back o =
-      looked (Back w) (bits w 31 25 / 2 * 8 + bits w 14 12) (shifts (fields_of w))
+      looked (Back w) (shift_key (fields_of w)) (shifts (fields_of w))
       ((λ e n. shift_back w h 0b0010011 0b0000000_00000_001 0b000000_001 o e refl refl) and
       (λ e n. shift_back w h 0b0010011 0b0000000_00000_101 0b000000_101 o e refl refl) and
       (λ e n. shift_back w h 0b0010011 0b0100000_00000_101 0b010000_101 o e refl refl) and
@@ -124,7 +122,7 @@ module _ (w : ℕ) (h : w < 2 ^ 32) where
   pub op_imm_32_back : 0b0011011 ≡ opcode w → Back w (op_imm32_of (fields_of w) (imm_i_of w))
   unfolding op_imm32_of pack_of
   op_imm_32_back o =
-      looked (Back w) (bits w 14 12) (0b000 ⇒ OpImm32 Addw (bits w 11 7) (bits w 19 15) (imm_i_of w) ¦ otherwise (word_shift_of (fields_of w)))
+      looked (Back w) (bits w 14 12) (op_imm32s (fields_of w) (imm_i_of w))
       ((λ e n. imm-back w h 0b0011011 0b000 o (sym e) refl) and
       word_shifts_back o)
 
@@ -187,7 +185,7 @@ module _ (w : ℕ) (h : w < 2 ^ 32) where
   pub fence_back : 0b0001111 ≡ opcode w → Back w (misc_mem_of w (fields_of w))
   unfolding misc_mem_of pack_of system_pack_of
   fence_back o =
-      looked (Back w) (bits w 14 12) (0b000 ⇒ Fence (bits w 31 28) (bits w 27 24) (bits w 23 20) (bits w 19 15) (bits w 11 7) ¦ otherwise Illegal)
+      looked (Back w) (bits w 14 12) (misc_mems w (fields_of w))
       ((λ e n. i-back w h 0b0001111 0 _ o (sym e) (fence-parts _ _ _ _ _ (omega arith) (omega arith) (omega arith) (join w 24 4 4) (join w 20 8 4)))
       and
       none w)

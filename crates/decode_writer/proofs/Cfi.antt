@@ -9,10 +9,10 @@ use borrow.Author.Tests.{eqb-true, eqb-false}
 use lib.Arith.{digits_div, digits_mod}
 use lib.Dec.{eqb}
 use lib.Pow.{split, shr-shr}
-use Rattle.isa.specs.declared.Instruction.TheVariants.{ReadSsp}
-use Rattle.word.specs.Choice.{look, flag_of, ◌⇒◌¦◌, otherwise}
+use Rattle.word.specs.Choice.{look}
 use Rattle.word.specs.Field.{bits, opcode, fields_of}
-use Rattle.decode.specs.Cfi.{swap_of, swaps, aq, rl, mop_of, mop_rs, mop_rrs, zimop_of, zimops}
+use Rattle.decode.specs.Cfi.{swap_of, swaps, amo_key, aq, rl, mop_of, mop_r_key, mop_rs, mop_rr_key, mop_rrs, zimop_of, zimops, reads}
+use Rattle.decode_numbers.specs.Numbers.{ordering_bit}
 use Rattle.decode_writer.specs.Format.{word_i}
 use Rattle.decode_writer.specs.Pack.{pack_of, system_pack_of, swap_bits, mop_r_bits, mop_rr_bits}
 use Rattle.decode_writer.proofs.Back.{Back, none}
@@ -20,10 +20,10 @@ use Rattle.word.proofs.Tables.{looked, ◌and◌}
 use Rattle.decode_writer.proofs.Formats.{join, i-back}
 
 -- a bit that became a test becomes the bit again
-flag_of_lem : (x : ℕ) → x < 2 → flag_of (eqb x 1) ≡ x
+flag_of_lem : (x : ℕ) → x < 2 → ordering_bit (eqb x 1) ≡ x
 flag_of_lem x h = go (eqb x 1) refl
   where
-    go : (t : Bool) → eqb x 1 ≡ t → flag_of t ≡ x
+    go : (t : Bool) → eqb x 1 ≡ t → ordering_bit t ≡ x
     go true e = sym (eqb-true x 1 e)
     go false e = let n : (x ≡ 1 → ⊥) = eqb-false x 1 e in omega arith
 
@@ -106,9 +106,9 @@ ssp_word w d h e = omega arith
 
 module _ (w : ℕ) (h : w < 2 ^ 32) where
   swap-row :
-      (k key : ℕ) → 0b0101111 ≡ opcode w → bits w 31 25 / 4 * 8 + bits w 14 12 ≡ key → k % 2 ^ 3 ≡ key % 8 → k / 2 ^ 3 ≡ key / 8 * 2 ^ 7
+      (k key : ℕ) → 0b0101111 ≡ opcode w → amo_key (fields_of w) ≡ key → k % 2 ^ 3 ≡ key % 8 → k / 2 ^ 3 ≡ key / 8 * 2 ^ 7
       → word_i 0b0101111 k (bits w 11 7) (bits w 19 15)
-      (swap_bits (flag_of (aq (fields_of w))) (flag_of (rl (fields_of w))) (bits w 24 20)) ≡ w
+      (swap_bits (ordering_bit (aq (fields_of w))) (ordering_bit (rl (fields_of w))) (bits w 24 20)) ≡ w
   swap-row k key o e e3 e7 =
       let a : bits w 14 12 < 8 = omega arith in
       let f7 : bits w 31 25 / 4 ≡ key / 8 = omega arith in
@@ -120,15 +120,15 @@ module _ (w : ℕ) (h : w < 2 ^ 32) where
   pub swap_back : 0b0101111 ≡ opcode w → Back w (swap_of (fields_of w))
   unfolding swap_of pack_of system_pack_of
   swap_back o =
-      looked (Back w) (bits w 31 25 / 4 * 8 + bits w 14 12) (swaps (fields_of w))
+      looked (Back w) (amo_key (fields_of w)) (swaps (fields_of w))
       ((λ e n. swap-row 0b0100100_00000_010 0b01001_010 o e refl refl) and
       (λ e n. swap-row 0b0100100_00000_011 0b01001_011 o e refl refl) and
       none w)
 
-  mop_rr_back : 0b1110011 ≡ opcode w → 0b100 ≡ bits w 14 12 → Back w (look (bits w 31 31 * 2 ^ 3 + bits w 29 28 * 2 + bits w 25 25) (mop_rrs w (fields_of w)))
+  mop_rr_back : 0b1110011 ≡ opcode w → 0b100 ≡ bits w 14 12 → Back w (look (mop_rr_key w) (mop_rrs w (fields_of w)))
   unfolding pack_of system_pack_of
   mop_rr_back o f =
-      looked (Back w) (bits w 31 31 * 2 ^ 3 + bits w 29 28 * 2 + bits w 25 25) (mop_rrs w (fields_of w))
+      looked (Back w) (mop_rr_key w) (mop_rrs w (fields_of w))
       ((λ e n.
       let k = keys_rr (bits w 31 31) (bits w 29 28) (bits w 25 25) (omega arith) (omega arith) (omega arith) e in
       i-back w h 0b1110011 0b1000001_00000_100 _ o f
@@ -139,7 +139,7 @@ module _ (w : ℕ) (h : w < 2 ^ 32) where
   mop_back : 0b1110011 ≡ opcode w → 0b100 ≡ bits w 14 12 → Back w (mop_of w (fields_of w))
   unfolding mop_of pack_of system_pack_of
   mop_back o f =
-      looked (Back w) (bits w 31 31 * 2 ^ 6 + bits w 29 28 * 2 ^ 4 + bits w 25 22) (mop_rs w (fields_of w))
+      looked (Back w) (mop_r_key w) (mop_rs w (fields_of w))
       ((λ e n.
       let k = keys_r (bits w 31 31) (bits w 29 28) (bits w 25 22) (omega arith) (omega arith) (omega arith) e in
       i-back w h 0b1110011 0b1000000_11100_100 _ o f
@@ -156,5 +156,5 @@ module _ (w : ℕ) (h : w < 2 ^ 32) where
       (λ e n. sym e) and
       (λ e n. sym e) and
       (λ e. mop_back o f) and
-      looked (Back w) (w - bits w 11 7 * 2 ^ 7) (0xCDC04073 ⇒ ReadSsp (bits w 11 7) ¦ otherwise (mop_of w (fields_of w)))
+      looked (Back w) (w - bits w 11 7 * 2 ^ 7) (reads w (fields_of w))
       ((λ e n. ssp_word w (bits w 11 7) (omega arith) e) and mop_back o f))

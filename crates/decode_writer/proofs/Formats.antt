@@ -9,7 +9,7 @@ use lib.Arith.{digits_div, digits_mod}
 use Rattle.word.specs.Field.{bits, opcode, fields_of}
 use Rattle.word.specs.Immediate.{imm_i_of, imm_s_of, imm_b_of, imm_u_of, imm_j_of}
 use Rattle.word.proofs.Extension.{extend_keeps}
-use Rattle.decode_base.specs.Base.{functs, shift_amount, count_key}
+use Rattle.decode_base.specs.Base.{functs, shift_key, shift_amount, count_key}
 use Rattle.decode_writer.specs.Format.{word_from, word_i, word_s, word_b, word_u, word_j}
 
 -- field by field, what is above the field as a number of its own: one sum over all of them is more than omega takes
@@ -143,7 +143,7 @@ module _ (w : ℕ) (h : w < 2 ^ 32) where
 
   -- the shifts: bits 31:26 and funct3 are the row's key
   pub shift_back :
-      (op k key : ℕ) → op % 2 ^ 7 ≡ opcode w → bits w 31 25 / 2 * 8 + bits w 14 12 ≡ key → k % 2 ^ 3 ≡ key % 8 → k / 2 ^ 3 ≡ key / 8 * 2 ^ 6
+      (op k key : ℕ) → op % 2 ^ 7 ≡ opcode w → shift_key (fields_of w) ≡ key → k % 2 ^ 3 ≡ key % 8 → k / 2 ^ 3 ≡ key / 8 * 2 ^ 6
       → word_i op k (bits w 11 7) (bits w 19 15) (shift_amount (fields_of w)) ≡ w
   shift_back op k key eo e e3 e7 =
       let a : bits w 14 12 < 8 = omega arith in

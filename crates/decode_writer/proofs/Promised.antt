@@ -10,13 +10,13 @@ use Rattle.decode_writer.specs.declared.Written.TheVariants.{Word, Refused}
 use Rattle.decode_numbers.specs.declared.Eight.{Eight}
 use Rattle.decode_numbers.specs.Numbers.{numbers_of}
 use Rattle.decode_writer.specs.Pack.{pack_of}
-use Rattle.decode_writer.specs.Promise.{Reads, ReadsNumbers, Answers}
+use Rattle.decode_writer.specs.Promise.{Reads, Answers, AnswersNumbers}
 use Rattle.decode_numbers.proofs.Again.{told}
 use Rattle.decode_writer.proofs.Answer.{packed}
 use Rattle.decode_writer.proofs.Decoded.{decoded_back}
 
 -- what answers the numbers of an instruction answers the instruction
-pub promised : (i : Instruction) (n : Eight) (r : Written) → n ≡ numbers_of i → Answers (λ v. ReadsNumbers v n) r → Answers (λ v. Reads v i) r
+pub promised : (i : Instruction) (n : Eight) (r : Written) → n ≡ numbers_of i → AnswersNumbers n r → Answers i r
 promised i n (Word w) e (h, d, l) =
     let same : decode_of w ≡ i = told (decode_of w) i (d ∙ e) in
     (h, same, λ z. l (same ∙ z))
@@ -29,18 +29,18 @@ one_word i v w (hv, dv, l) (hw, dw, _) =
     ∙ decoded_back w hw (λ z. l (sym dw ∙ z))
 
 -- the promise leaves no freedom
-pub one_answer : (i : Instruction) (r s : Written) → Answers (λ v. Reads v i) r → Answers (λ v. Reads v i) s → r ≡ s
+pub one_answer : (i : Instruction) (r s : Written) → Answers i r → Answers i s → r ≡ s
 one_answer i (Word v) (Word w) a b = ap Word (one_word i v w a b)
 one_answer i (Word v) Refused a b = absurd (b v a)
 one_answer i Refused (Word w) a b = absurd (a w b)
 one_answer i Refused Refused a b = refl
 
 -- every word that reads as a legal instruction is what writing that instruction gives
-pub read_written : (w : ℕ) → w < 2 ^ 32 → (decode_of w ≡ Illegal → ⊥) → (r : Written) → Answers (λ v. Reads v (decode_of w)) r → r ≡ Word w
+pub read_written : (w : ℕ) → w < 2 ^ 32 → (decode_of w ≡ Illegal → ⊥) → (r : Written) → Answers (decode_of w) r → r ≡ Word w
 read_written w h l r a = one_answer (decode_of w) r (Word w) a (h, refl, l)
 
 -- the same of eight numbers
-pub one_answer_numbers : (n : Eight) (r s : Written) → Answers (λ v. ReadsNumbers v n) r → Answers (λ v. ReadsNumbers v n) s → r ≡ s
+pub one_answer_numbers : (n : Eight) (r s : Written) → AnswersNumbers n r → AnswersNumbers n s → r ≡ s
 one_answer_numbers n (Word v) (Word w) a b = ap Word (sym (packed n v a) ∙ packed n w b)
 one_answer_numbers n (Word v) Refused a b = absurd (b v a)
 one_answer_numbers n Refused (Word w) a b = absurd (a w b)

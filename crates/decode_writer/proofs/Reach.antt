@@ -119,11 +119,11 @@ module _ (w : ℕ) where
 
 -- a distance out of reach is refused
 pub branch-refused :
-    (c : Condition) (a b o : ℕ) → (InReach 13 o → ⊥) → (r : Written) → Answers (λ v. Reads v (Branch c a b o)) r → r ≡ Refused
+    (c : Condition) (a b o : ℕ) → (InReach 13 o → ⊥) → (r : Written) → Answers (Branch c a b o) r → r ≡ Refused
 branch-refused c a b o n (Word w) p = absurd (n (branch_reach w c a b o p))
 branch-refused c a b o n Refused p = refl
 
-pub jump_refused : (d o : ℕ) → (InReach 21 o → ⊥) → (r : Written) → Answers (λ v. Reads v (Jal d o)) r → r ≡ Refused
+pub jump_refused : (d o : ℕ) → (InReach 21 o → ⊥) → (r : Written) → Answers (Jal d o) r → r ≡ Refused
 jump_refused d o n (Word w) p = absurd (n (jump_reach w d o p))
 jump_refused d o n Refused p = refl
 

@@ -200,5 +200,5 @@ module _ (c : Condition) (a b o : ℕ) (ha : a < 2 ^ 5) (hb : b < 2 ^ 5) (h : o 
   )
 
   -- so a branch in reach is never refused
-  pub branch_written : (s : Written) → Answers (λ v. Reads v (Branch c a b o)) s → s ≡ Word word
+  pub branch_written : (s : Written) → Answers (Branch c a b o) s → s ≡ Word word
   branch_written s p = one_answer (Branch c a b o) s (Word word) p branch_word

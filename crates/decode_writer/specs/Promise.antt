@@ -12,11 +12,15 @@ use Rattle.decode_numbers.specs.Numbers.{numbers_of}
 abbrev pub Reads : ℕ → Instruction → Type 0
 Reads w i = (w < 2 ^ 32) × (decode_of w ≡ i) × (i ≡ Illegal → ⊥)
 
+-- the answer is a word that reads as i, or there is none
+abbrev pub Answers : Instruction → Written → Type 0
+Answers i (Word w) = Reads w i
+Answers i Refused = (w : ℕ) → Reads w i → ⊥
+
 -- w is a word that reads as a legal instruction, whose numbers are n
 abbrev pub ReadsNumbers : ℕ → Eight → Type 0
 ReadsNumbers w n = (w < 2 ^ 32) × (numbers_of (decode_of w) ≡ n) × (decode_of w ≡ Illegal → ⊥)
 
--- the answer is a word that is as asked, or there is none
-abbrev pub Answers : (Asked : ℕ → Type 0) → Written → Type 0
-Answers Asked (Word w) = Asked w
-Answers Asked Refused = (w : ℕ) → Asked w → ⊥
+abbrev pub AnswersNumbers : Eight → Written → Type 0
+AnswersNumbers n (Word w) = ReadsNumbers w n
+AnswersNumbers n Refused = (w : ℕ) → ReadsNumbers w n → ⊥

@@ -2,7 +2,7 @@
 //
 // The word is packed from the instruction's numbers without a test and then read: it is the answer exactly if it reads as
 // what was to be written. So nothing here says which numbers are in reach: the reader does.
-ghost use Rattle.decode_writer.specs.Promise.{Reads, ReadsNumbers, Answers};
+ghost use Rattle.decode_writer.specs.Promise.{Answers, AnswersNumbers};
 
 use decode::decode;
 use decode_numbers::Eight;
@@ -24,7 +24,7 @@ pub enum Written {
 
 // The word of eight numbers, whatever they are. Family 0 is no legal instruction, though words read as it.
 pub fn write_numbers(n: Eight) -> Written
-    ensures { Answers (λ v. ReadsNumbers v n) result }
+    ensures { AnswersNumbers n result }
 {
     let family = n.family;
     if family == 0 {
@@ -39,7 +39,7 @@ pub fn write_numbers(n: Eight) -> Written
 
 // The word of an instruction.
 pub fn write(i: Instruction) -> Written
-    ensures { Answers (λ v. Reads v i) result }
+    ensures { Answers i result }
 {
     write_numbers(decode_numbers::of_instruction(i))
 }

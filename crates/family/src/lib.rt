@@ -1,15 +1,15 @@
 // The decoder's verdict as a number, for who compares decoders word by word (include/sporhulma.h).
 //
 // A static library of its own: the compiler puts `decode` into the run's loop only while that is its one caller.
-ghost use Rattle.std.specs.Prelude.{◌≡◌, ℕ};
+ghost use Rattle.std.specs.Prelude.{◌≡◌};
 ghost use Rattle.decode.specs.Decode.{decode_of};
-ghost use Rattle.decode_numbers.specs.Numbers.{access_numbers, numbers_of};
+ghost use Rattle.family.specs.Family.{access_family, family_of};
 
 use decode::decode;
 use isa::{Access, Instruction};
 
 fn of_access(a: Access) -> u64
-    ensures { (rd rs1 rs2 o : ℕ) → result ≡ (access_numbers a rd rs1 rs2 o).family }
+    ensures { result ≡ access_family a }
 {
     match a {
         Access::Load(_, _) => 6,
@@ -21,7 +21,7 @@ fn of_access(a: Access) -> u64
 }
 
 fn of_instruction(i: Instruction) -> u64
-    ensures { result ≡ (numbers_of i).family }
+    ensures { result ≡ family_of i }
 {
     match i {
         Instruction::Illegal => 0,
@@ -50,7 +50,7 @@ fn of_instruction(i: Instruction) -> u64
 // The family of the instruction that a word names, or 0.
 #[unsafe(no_mangle)]
 pub extern "C" fn sporhulma_family(word: u32) -> u64
-    ensures { result ≡ (numbers_of (decode_of word)).family }
+    ensures { result ≡ family_of (decode_of word) }
 {
     of_instruction(decode(word))
 }

@@ -13,8 +13,7 @@ use lib.ListN.{length, get_or, take, drop, set, length-drop, drop_of_length-le}
 use lib.Seq.{sets, drop-cons, get_or-take, get_or-drop, length-take-le}
 use Rattle.word.specs.Choice.{pick}
 use Rattle.word.proofs.Bools.{both}
-use Rattle.hex.specs.Digits.{hex_pairs}
-use Rattle.word.specs.Sum.{total_of}
+use Rattle.hex.specs.Digits.{hex_pairs, total}
 use Rattle.hex.specs.Line.{line_bytes_of, byte_of, record_count_of, offset_of, record_type_of, colon, counted, shaped, well_formed, checked, is_read, record_address_of, data_of}
 use Rattle.hex.specs.Line.{inside, good}
 use Rattle.hex.specs.Load.{placed}
@@ -65,7 +64,7 @@ module _ (l : List ℕ) where
       → good len upper l ≡ eqb (line_sum_of l) 0 && (counted l
       && (shaped (record_type_of l) (record_count_of l) (offset_of l) && (is_read (record_type_of l) && inside len (record_type_of l) (record_count_of l) (record_address_of upper l))))
   unfolding good well_formed checked line_sum_of sum_from
-  good_is len upper = rw zero-add (summed (colon l) (leb 11 (length l)) (hex_pairs (drop 1 l)) (counted l) _ _ (total_of (line_bytes_of l) % 256) short)
+  good_is len upper = rw zero-add (summed (colon l) (leb 11 (length l)) (hex_pairs (drop 1 l)) (counted l) _ _ (total (line_bytes_of l) % 256) short)
 
   pub bad_sum : (len upper : ℕ) → (line_sum_of l ≡ 0 → ⊥) → good len upper l ≡ false
   bad_sum len upper n = good_is len upper ∙ rw (ne_eqb (line_sum_of l) 0 n)

@@ -9,8 +9,7 @@ use borrow.Author.Tests.{lt-ltb, ltb-true}
 use lib.Dec.{ltb}
 use lib.ListN.{length, get_or, drop}
 use Rattle.word.proofs.Bools.{both}
-use Rattle.hex.specs.Digits.{digit_of, is_digit, hex_pairs, pairs_of}
-use Rattle.word.specs.Sum.{total_of}
+use Rattle.hex.specs.Digits.{digit_of, is_digit, hex_pairs, pairs_of, total}
 use Rattle.hex.specs.Line.{byte_of}
 use Rattle.hex.specs.Inner.{weight_of, sum_from}
 use Rattle.hex.proofs.Digits.{pair_good}
@@ -61,14 +60,14 @@ byte_at (c ∷ ds) k h n =
 
 -- the sum: none, one pair more, and what is not hex pairs
 pub sum_none : (s : ℕ) → s < 256 → sum_from s [] ≡ s
-unfolding sum_from hex_pairs pairs_of
+unfolding sum_from hex_pairs pairs_of total
 sum_none s h = omega arith
 
 pub sum_pair : (s x y b : ℕ) (rest : List ℕ) → b ≡ weight_of x * 16 + weight_of y → b ≤ 255 → sum_from s (x ∷ y ∷ rest) ≡ sum_from ((s + b) % 256) rest
-unfolding sum_from hex_pairs pairs_of is_digit
+unfolding sum_from hex_pairs pairs_of total is_digit
 sum_pair s x y b rest e h =
     let (p, q, g) = pair_good x y b e h in
-    let f : (s + (digit_of x * 16 + digit_of y + total_of (pairs_of rest))) % 256 ≡ ((s + b) % 256 + total_of (pairs_of rest)) % 256 = omega arith in
+    let f : (s + (digit_of x * 16 + digit_of y + total (pairs_of rest))) % 256 ≡ ((s + b) % 256 + total (pairs_of rest)) % 256 = omega arith in
     rw (lt-ltb (digit_of x) 16 p, lt-ltb (digit_of y) 16 q, f)
 
 pub sum_bad : (s : ℕ) (ds : List ℕ) → hex_pairs ds ≡ false → sum_from s ds ≡ 256

@@ -3,8 +3,7 @@
 -- Below, t is a text, i and at are places in it.
 use Rattle.std.specs.Prelude.{Bool, true, false, ◌&&◌, List, [], ◌∷◌, ◌++◌, ◌≡◌, ℕ, ◌+◌, ◌-◌, ◌*◌, ◌%◌, ◌<◌, ◌≤◌, leb, length, get_or, take, drop}
 use Rattle.word.specs.Choice.{pick}
-use Rattle.hex.specs.Digits.{digit_of, is_digit, hex_pairs, pairs_of}
-use Rattle.word.specs.Sum.{total_of}
+use Rattle.hex.specs.Digits.{digit_of, is_digit, hex_pairs, pairs_of, total}
 use Rattle.hex.specs.Lines.{lines_of}
 use Rattle.hex.specs.Line.{record_count_of, colon, good}
 use Rattle.hex.specs.Load.{upper_after_of}
@@ -40,7 +39,7 @@ lines_behind t i = others_of (lines_of (drop i t))
 
 -- the sum modulo 256 of s and of what hex pairs say; 256 for what is not hex pairs
 unfoldable pub sum_from : (s : ℕ) → (ds : List ℕ) → ℕ
-sum_from s ds = pick (hex_pairs ds) ((s + total_of (pairs_of ds)) % 256) 256
+sum_from s ds = pick (hex_pairs ds) ((s + total (pairs_of ds)) % 256) 256
 
 -- the same of a line; 256 for what is not a colon and at least five hex pairs
 unfoldable pub line_sum_of : (l : List ℕ) → ℕ

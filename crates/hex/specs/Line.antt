@@ -3,9 +3,8 @@
 --
 -- Below, l is a line, upper the upper address, len memory's length.
 use Rattle.std.specs.Prelude.{Bool, true, false, ◌&&◌, ◌||◌, not, List, ℕ, ◌+◌, ◌*◌, ◌%◌, eqb, leb, length, get_or, take, drop}
-use Rattle.word.specs.Choice.{look, ◌⇒◌¦◌, otherwise}
-use Rattle.hex.specs.Digits.{hex_pairs, pairs_of}
-use Rattle.word.specs.Sum.{total_of}
+use Rattle.word.specs.Choice.{look, Table, ◌⇒◌¦◌, otherwise}
+use Rattle.hex.specs.Digits.{hex_pairs, pairs_of, total}
 
 -- the bytes of a line: count, offset (two), type, data, checksum
 abbrev pub line_bytes_of : (l : List ℕ) → List ℕ
@@ -39,21 +38,29 @@ unfoldable pub counted : (l : List ℕ) → Bool
 counted l = eqb (length (line_bytes_of l)) (record_count_of l + 5)
 
 -- no data bytes in 01, two in 04, four in 05, and offset 0000 in those three
+abbrev pub shapes : (count offset : ℕ) → Table Bool
+shapes count offset =
+    1 ⇒ eqb count 0 && eqb offset 0 ¦
+    4 ⇒ eqb count 2 && eqb offset 0 ¦
+    5 ⇒ eqb count 4 && eqb offset 0 ¦
+    otherwise true
+
 unfoldable pub shaped : (kind count offset : ℕ) → Bool
-shaped kind count offset =
-    look kind
-    (1 ⇒ eqb count 0 && eqb offset 0 ¦ 4 ⇒ eqb count 2 && eqb offset 0 ¦ 5 ⇒ eqb count 4 && eqb offset 0 ¦ otherwise true)
+shaped kind count offset = look kind (shapes count offset)
 
 unfoldable pub well_formed : (l : List ℕ) → Bool
 well_formed l = colon l && (hex_pairs (drop 1 l) && (counted l && shaped (record_type_of l) (record_count_of l) (offset_of l)))
 
 -- all bytes of the line, the checksum too, add up to 0 modulo 256
 unfoldable pub checked : (l : List ℕ) → Bool
-checked l = eqb (total_of (line_bytes_of l) % 256) 0
+checked l = eqb (total (line_bytes_of l) % 256) 0
 
 -- types 00, 01, 04 and 05 are read
+abbrev pub record_types : Table Bool
+record_types = 0 ⇒ true ¦ 1 ⇒ true ¦ 4 ⇒ true ¦ 5 ⇒ true ¦ otherwise false
+
 unfoldable pub is_read : (kind : ℕ) → Bool
-is_read kind = look kind (0 ⇒ true ¦ 1 ⇒ true ¦ 4 ⇒ true ¦ 5 ⇒ true ¦ otherwise false)
+is_read kind = look kind record_types
 
 -- where the data go: offsets add on to the upper address without wrapping
 unfoldable pub record_address_of : (upper : ℕ) → (l : List ℕ) → ℕ

@@ -2,11 +2,10 @@
 //
 // A place in memory is an index here; which address stands for it, and who may use it, is the business
 // of crate `address_place`.
-ghost use Rattle.std.specs.Prelude.{◌≡◌, ◌+◌, ◌*◌, ◌≤◌, length};
+ghost use Rattle.std.specs.Prelude.{◌≡◌, ◌+◌, ◌≤◌, length};
 ghost use Rattle.isa.specs.Size.{size_of};
 ghost use Rattle.memory.specs.Bytes.{load_of, store_of};
-ghost use Rattle.memory.specs.Extend.{extend_of};
-ghost use Rattle.word.specs.Sign.{sign_extend_of};
+ghost use Rattle.memory.specs.Extend.{extend_of, sign_extended};
 ghost use Rattle.memory.specs.Refusal.{memory_refused_of};
 
 use isa::Width;
@@ -38,7 +37,7 @@ pub fn word(mem: &[u8], at: usize) -> u32
 
 // A loaded number, its sign copied to the bits above.
 fn signed(w: Width, v: u64) -> u64
-    ensures { result ≡ sign_extend_of (8 * size_of w) v }
+    ensures { result ≡ sign_extended w v }
 {
     match w {
         Width::Byte => sign::from_8(v),

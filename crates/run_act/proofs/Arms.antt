@@ -8,7 +8,6 @@ use mathlib.Core.Path.{◌≡◌, refl, ap}
 use Prim.Native.Nat.{ℕ, ◌%◌}
 use lib.Dec.{eqb}
 use lib.ListN.{length, get_or}
-use Rattle.address_page.specs.Map.{Map}
 use Rattle.word.specs.Choice.{pick}
 use Rattle.word.specs.Sum.{sum_of}
 use Rattle.isa.specs.declared.Access.TheVariants as access
@@ -74,7 +73,7 @@ pub record Case : Type 0 where
   pub x : List ℕ
   pub w : List ℕ
   pub m : List ℕ
-  pub map : Map
+  pub map : List ℕ
 
 module _ (q : Case) (P : Type 0) where
   abbrev o : Op
@@ -110,7 +109,7 @@ module _ (q : Case) (P : Type 0) where
   abbrev m : List ℕ
   m = q.m
 
-  abbrev map : Map
+  abbrev map : List ℕ
   map = q.map
 
   abbrev pub Acts : (t : Acted) (x' w' m' : List ℕ) → Type 0

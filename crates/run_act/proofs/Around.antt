@@ -5,7 +5,6 @@ use mathlib.Core.Path.{◌≡◌}
 use Prim.Native.Nat.{ℕ, ◌+◌, ◌-◌, ◌/◌, ◌%◌, ◌≤◌}
 use native.Mathlib.Omega.{arith}
 use lib.ListN.{length}
-use Rattle.address_page.specs.Map.{Map}
 use Rattle.word.proofs.Either.{either}
 use Rattle.isa.specs.Size.{size_of}
 use Rattle.isa.specs.declared.Kind.{Kind}
@@ -41,7 +40,7 @@ first_fits Half at len h = omega arith
 first_fits Word at len h = omega arith
 first_fits Double at len h = omega arith
 
-module _ (c : Control) (k : Kind) (n : Width) (a : ℕ) (map : Map) (len at : ℕ)
+module _ (c : Control) (k : Kind) (n : Width) (a : ℕ) (map : List ℕ) (len at : ℕ)
     (found : place_of c k n a map len ≡ At (record { 0 = base + at })) where
   pub fits : at + size_of n ≤ len
   fits = omega (arith, place_index c k n a map len (record { 0 = base + at }) found)

@@ -3,7 +3,6 @@
 //
 // One match for all: a second one would be a second jump for each instruction (docs/SPEED.md).
 ghost use Rattle.std.specs.Prelude.{Bool, true, false, List, ◌≡◌, ℕ, ◌+◌, ◌^◌, ◌<◌, ◌≤◌, length, get_or};
-ghost use Rattle.address_page.specs.Lent.{map_of};
 ghost use Rattle.word.specs.Sum.{sum_of};
 ghost use Rattle.isa.specs.declared.Access.TheVariants as access;
 ghost use Rattle.isa.specs.declared.Kind.TheVariants as kind;
@@ -113,27 +112,16 @@ fn load(
     pc: u64,
     c: Control,
     mem: &[u8],
-    pages: &[u32],
-    leaves: &[u64],
-    ps: &mut [u64; PAGES],
+    map: &[u64],
+    pages: &mut [u64; PAGES],
 ) -> Acted
-    requires { (length mem.now ≤ 2 ^ 20) × (rd < 32) × Remembers ps.old c (map_of pages.now leaves.now) (length mem.now) }
+    requires { (length mem.now ≤ 2 ^ 20) × (rd < 32) × Remembers pages.old c map.now (length mem.now) }
     ensures does { (result.stored ≡ 0) × ((w : List ℕ) → Does result.done (at_of (access.Load n sign)
-        (place_of c kind.Load n (sum_of a off) (map_of pages.now leaves.now) (length mem.now)) rd 0 0 0 (next_of pc) mem.now) x.old
+        (place_of c kind.Load n (sum_of a off) map.now (length mem.now)) rd 0 0 0 (next_of pc) mem.now) x.old
         w mem.now result.pc x.new w mem.now) }
-    ensures remembered { Remembers ps.new c (map_of pages.now leaves.now) (length mem.now) }
+    ensures pages { Remembers pages.new c map.now (length mem.now) }
 {
-    let q = run_pages::seek(
-        ps,
-        0,
-        Kind::Load,
-        n,
-        sum::sum(a, off),
-        c,
-        mem,
-        pages,
-        leaves,
-    );
+    let q = run_pages::seek(pages, 0, Kind::Load, n, sum::sum(a, off), c, mem, map);
     if q.found {
         let v = memory::extend(n, sign, memory::load(mem, q.at, n));
         return wrote(x, rd, v, sum::sum(pc, 4));
@@ -149,28 +137,17 @@ fn store(
     pc: u64,
     c: Control,
     mem: &mut [u8],
-    pages: &[u32],
-    leaves: &[u64],
-    ps: &mut [u64; PAGES],
+    map: &[u64],
+    pages: &mut [u64; PAGES],
 ) -> Acted
-    requires { (length mem.old ≤ 2 ^ 20) × Remembers ps.old c (map_of pages.now leaves.now) (length mem.old) }
+    requires { (length mem.old ≤ 2 ^ 20) × Remembers pages.old c map.now (length mem.old) }
     ensures does { (x w : List ℕ) → Does result.done (at_of (access.Store n)
-        (place_of c kind.Store n (sum_of a off) (map_of pages.now leaves.now) (length mem.old)) 0 0 v 0 (next_of pc) mem.old) x w
+        (place_of c kind.Store n (sum_of a off) map.now (length mem.old)) 0 0 v 0 (next_of pc) mem.old) x w
         mem.old result.pc x w mem.new }
     ensures stored { Touched result.stored mem.old mem.new }
-    ensures remembered { Remembers ps.new c (map_of pages.now leaves.now) (length mem.old) }
+    ensures pages { Remembers pages.new c map.now (length mem.old) }
 {
-    let q = run_pages::seek(
-        ps,
-        1,
-        Kind::Store,
-        n,
-        sum::sum(a, off),
-        c,
-        mem,
-        pages,
-        leaves,
-    );
+    let q = run_pages::seek(pages, 1, Kind::Store, n, sum::sum(a, off), c, mem, map);
     if q.found {
         let at = q.at;
         memory::store(mem, at, n, v);
@@ -189,19 +166,18 @@ fn push(
     pc: u64,
     c: Control,
     mem: &mut [u8],
-    pages: &[u32],
-    leaves: &[u64],
-    ps: &mut [u64; PAGES],
+    map: &[u64],
+    pages: &mut [u64; PAGES],
 ) -> Acted
-    requires { (length mem.old ≤ 2 ^ 20) × Remembers ps.old c (map_of pages.now leaves.now) (length mem.old) }
+    requires { (length mem.old ≤ 2 ^ 20) × Remembers pages.old c map.now (length mem.old) }
     ensures does { (x : List ℕ) → Does result.done (at_of access.Push (place_of c kind.Push Double (push_of (SSP of (λ x. x.now) w.entry))
-        (map_of pages.now leaves.now) (length mem.old)) 0 0 v (SSP of (λ x. x.now) w.entry) (next_of pc) mem.old) x w.old
+        map.now (length mem.old)) 0 0 v (SSP of (λ x. x.now) w.entry) (next_of pc) mem.old) x w.old
         mem.old result.pc x w.new mem.new }
     ensures stored { Touched result.stored mem.old mem.new }
-    ensures remembered { Remembers ps.new c (map_of pages.now leaves.now) (length mem.old) }
+    ensures pages { Remembers pages.new c map.now (length mem.old) }
 {
     let top = sum::difference(w[SSP], 8);
-    let q = run_pages::seek(ps, 2, Kind::Push, Width::Double, top, c, mem, pages, leaves);
+    let q = run_pages::seek(pages, 2, Kind::Push, Width::Double, top, c, mem, map);
     if q.found {
         let at = q.at;
         memory::store(mem, at, Width::Double, v);
@@ -221,18 +197,17 @@ fn pop(
     pc: u64,
     c: Control,
     mem: &[u8],
-    pages: &[u32],
-    leaves: &[u64],
-    ps: &mut [u64; PAGES],
+    map: &[u64],
+    pages: &mut [u64; PAGES],
 ) -> Acted
-    requires { (length mem.now ≤ 2 ^ 20) × Remembers ps.old c (map_of pages.now leaves.now) (length mem.now) }
+    requires { (length mem.now ≤ 2 ^ 20) × Remembers pages.old c map.now (length mem.now) }
     ensures does { (result.stored ≡ 0) × ((x : List ℕ) → Does result.done (at_of access.Pop (place_of c kind.Pop Double (SSP of (λ x. x.now) w.entry)
-        (map_of pages.now leaves.now) (length mem.now)) 0 v 0 (SSP of (λ x. x.now) w.entry) (next_of pc) mem.now) x w.old
+        map.now (length mem.now)) 0 v 0 (SSP of (λ x. x.now) w.entry) (next_of pc) mem.now) x w.old
         mem.now result.pc x w.new mem.now) }
-    ensures remembered { Remembers ps.new c (map_of pages.now leaves.now) (length mem.now) }
+    ensures pages { Remembers pages.new c map.now (length mem.now) }
 {
     let top = w[SSP];
-    let q = run_pages::seek(ps, 3, Kind::Pop, Width::Double, top, c, mem, pages, leaves);
+    let q = run_pages::seek(pages, 3, Kind::Pop, Width::Double, top, c, mem, map);
     if q.found {
         if memory::load(mem, q.at, Width::Double) == v {
             w[SSP] = sum::sum(top, 8);
@@ -242,7 +217,7 @@ fn pop(
     undone(pc)
 }
 
-// a and r are the values of the form's two registers, m is memory, and p what is remembered of pages.
+// a and r are the values of the form's two registers.
 pub fn act(
     op: Op,
     rd: usize,
@@ -253,16 +228,15 @@ pub fn act(
     w: &mut [u64; COUNT],
     pc: u64,
     c: Control,
-    m: &mut [u8],
-    pages: &[u32],
-    leaves: &[u64],
-    p: &mut [u64; PAGES],
+    mem: &mut [u8],
+    map: &[u64],
+    pages: &mut [u64; PAGES],
 ) -> Acted
-    requires { (length m.old ≤ 2 ^ 20) × (rd < 32) × (get_or x.old 0 0 ≡ 0) × Remembers p.old c (map_of pages.now leaves.now) (length m.old) }
-    ensures does { Does result.done (does_of op rd a r v pc (SSP of (λ x. x.now) w.entry) c m.old (map_of pages.now leaves.now)) x.entry.now
-        w.old m.old result.pc x.exit.now w.new m.new }
-    ensures stored { Touched result.stored m.old m.new }
-    ensures remembered { Remembers p.new c (map_of pages.now leaves.now) (length m.old) }
+    requires { (length mem.old ≤ 2 ^ 20) × (rd < 32) × (get_or x.old 0 0 ≡ 0) × Remembers pages.old c map.now (length mem.old) }
+    ensures does { Does result.done (does_of op rd a r v pc (SSP of (λ x. x.now) w.entry) c mem.old map.now) x.entry.now
+        w.old mem.old result.pc x.exit.now w.new mem.new }
+    ensures stored { Touched result.stored mem.old mem.new }
+    ensures pages { Remembers pages.new c map.now (length mem.old) }
 {
     let b = sum::sum(r, v);
     match op {
@@ -312,19 +286,19 @@ pub fn act(
         Op::Bge => branch(!order::signed_less(a, r), v, pc),
         Op::Bltu => branch(order::unsigned_less(a, r), v, pc),
         Op::Bgeu => branch(!order::unsigned_less(a, r), v, pc),
-        Op::Lb => load(Width::Byte, true, rd, a, v, x, pc, c, m, pages, leaves, p),
-        Op::Lh => load(Width::Half, true, rd, a, v, x, pc, c, m, pages, leaves, p),
-        Op::Lw => load(Width::Word, true, rd, a, v, x, pc, c, m, pages, leaves, p),
-        Op::Ld => load(Width::Double, true, rd, a, v, x, pc, c, m, pages, leaves, p),
-        Op::Lbu => load(Width::Byte, false, rd, a, v, x, pc, c, m, pages, leaves, p),
-        Op::Lhu => load(Width::Half, false, rd, a, v, x, pc, c, m, pages, leaves, p),
-        Op::Lwu => load(Width::Word, false, rd, a, v, x, pc, c, m, pages, leaves, p),
-        Op::Sb => store(Width::Byte, a, v, r, pc, c, m, pages, leaves, p),
-        Op::Sh => store(Width::Half, a, v, r, pc, c, m, pages, leaves, p),
-        Op::Sw => store(Width::Word, a, v, r, pc, c, m, pages, leaves, p),
-        Op::Sd => store(Width::Double, a, v, r, pc, c, m, pages, leaves, p),
-        Op::Push => push(r, w, pc, c, m, pages, leaves, p),
-        Op::Pop => pop(a, w, pc, c, m, pages, leaves, p),
+        Op::Lb => load(Width::Byte, true, rd, a, v, x, pc, c, mem, map, pages),
+        Op::Lh => load(Width::Half, true, rd, a, v, x, pc, c, mem, map, pages),
+        Op::Lw => load(Width::Word, true, rd, a, v, x, pc, c, mem, map, pages),
+        Op::Ld => load(Width::Double, true, rd, a, v, x, pc, c, mem, map, pages),
+        Op::Lbu => load(Width::Byte, false, rd, a, v, x, pc, c, mem, map, pages),
+        Op::Lhu => load(Width::Half, false, rd, a, v, x, pc, c, mem, map, pages),
+        Op::Lwu => load(Width::Word, false, rd, a, v, x, pc, c, mem, map, pages),
+        Op::Sb => store(Width::Byte, a, v, r, pc, c, mem, map, pages),
+        Op::Sh => store(Width::Half, a, v, r, pc, c, mem, map, pages),
+        Op::Sw => store(Width::Word, a, v, r, pc, c, mem, map, pages),
+        Op::Sd => store(Width::Double, a, v, r, pc, c, mem, map, pages),
+        Op::Push => push(r, w, pc, c, mem, map, pages),
+        Op::Pop => pop(a, w, pc, c, mem, map, pages),
         Op::ReadSsp => computed(x, rd, w[SSP], pc),
         Op::Left => undone(pc),
     }

@@ -8,12 +8,11 @@ use borrow.Author.Tests.{eqb-true}
 use lib.Dec.{eqb, ltb}
 use lib.ListN.{length}
 use native.Mathlib.Omega.{arith}
-use Rattle.address_page.specs.Lent.{Lent}
 use Rattle.word.specs.Choice.{pick}
 use Rattle.word.proofs.Choices.{second}
 use Rattle.memory.specs.Refusal as memory
 use Rattle.memory.proofs.Accepted.{accepted}
-use Rattle.address_page.specs.Lent as page
+use Rattle.address_page.specs.Map as page
 use Rattle.step_hart.specs.Hart.{legal}
 use Rattle.step_hart.specs.declared.Hart.{Hart}
 use Rattle.run_call.specs.Call.{refusal_of, run_refusal_of}
@@ -25,14 +24,14 @@ none false false true e = absurd (omega (arith, e))
 none false false false e = (refl, refl, refl)
 
 -- refusals 1 to 3 do not apply
-pub no_refusal : (h : Hart) (m : List ℕ) (lent : Lent) → refusal_of h m lent ≡ 0
-    → (not (legal h) ≡ false) × (memory.memory_refused_of (length m) ≡ false) × (page.map_refused_of lent ≡ false)
+pub no_refusal : (h : Hart) (m map : List ℕ) → refusal_of h m map ≡ 0
+    → (not (legal h) ≡ false) × (memory.memory_refused_of (length m) ≡ false) × (page.map_refused_of map ≡ false)
 unfolding refusal_of
-no_refusal h m lent e = none (not (legal h)) (memory.memory_refused_of (length m)) (page.map_refused_of lent) e
+no_refusal h m map e = none (not (legal h)) (memory.memory_refused_of (length m)) (page.map_refused_of map) e
 
 -- so memory has at most 2 ^ 20 bytes
-pub small : (h : Hart) (m : List ℕ) (lent : Lent) → refusal_of h m lent ≡ 0 → length m ≤ 2 ^ 20
-small h m lent e = (accepted (length m) (no_refusal h m lent e).1).2
+pub small : (h : Hart) (m map : List ℕ) → refusal_of h m map ≡ 0 → length m ≤ 2 ^ 20
+small h m map e = (accepted (length m) (no_refusal h m map e).1).2
 
 run_none : (n : ℕ) (over : Bool) → pick (eqb n 0) (pick over 4 0) n ≡ 0 → n ≡ 0
 run_none n over e = go (eqb n 0) refl
@@ -42,6 +41,6 @@ run_none n over e = go (eqb n 0) refl
     go false t = sym (second (eqb n 0) (pick over 4 0) n t) ∙ e
 
 -- a run that no refusal applies to is one that refusals 1 to 3 do not apply to
-pub run_no_refusal : (budget : ℕ) (h : Hart) (m : List ℕ) (lent : Lent) → run_refusal_of budget h m lent ≡ 0 → refusal_of h m lent ≡ 0
+pub run_no_refusal : (budget : ℕ) (h : Hart) (m map : List ℕ) → run_refusal_of budget h m map ≡ 0 → refusal_of h m map ≡ 0
 unfolding run_refusal_of
-run_no_refusal budget h m lent e = run_none (refusal_of h m lent) (ltb 1000000 budget) e
+run_no_refusal budget h m map e = run_none (refusal_of h m map) (ltb 1000000 budget) e

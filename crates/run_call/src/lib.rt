@@ -1,7 +1,6 @@
 // What a public call is: its answer, and refusals 1 to 4. The definitions of the three calls
 // stand in specs/Call.antt. Who makes them is above: `run_machine`, and the boundary for C and Rust.
 ghost use Rattle.std.specs.Prelude.{◌≡◌, false, not, ltb};
-ghost use Rattle.address_page.specs.Lent.{Columns};
 ghost use Rattle.word.specs.Choice.{pick};
 ghost use Rattle.step_hart.specs.Hart.{hart};
 ghost use Rattle.run_call.specs.Call.{refusal_of, run_refusal_of};
@@ -38,28 +37,21 @@ fn lowest(legal: bool, memory: bool, map: bool) -> u64
 }
 
 // Refusals 1 to 3, of the hart of these words: one by value would be copied to be asked.
-pub fn refusal(x: &[u64; 32], w: &[u64; COUNT], mem: &[u8], pages: &[u32], leaves: &[u64]) -> u64
-    ensures { result ≡ refusal_of (hart x.now w.now) mem.now (Columns pages.now leaves.now) }
+pub fn refusal(x: &[u64; 32], w: &[u64; COUNT], mem: &[u8], map: &[u64]) -> u64
+    ensures { result ≡ refusal_of (hart x.now w.now) mem.now map.now }
 {
     lowest(
         legal::of_words(x, w),
         memory::refused(mem.len() as u64),
-        map::refused(pages, leaves),
+        map::refused(map),
     )
 }
 
 // Refusals 1 to 4.
-pub fn run_refusal(
-    x: &[u64; 32],
-    w: &[u64; COUNT],
-    mem: &[u8],
-    pages: &[u32],
-    leaves: &[u64],
-    budget: u64,
-) -> u64
-    ensures { result ≡ run_refusal_of budget (hart x.now w.now) mem.now (Columns pages.now leaves.now) }
+pub fn run_refusal(x: &[u64; 32], w: &[u64; COUNT], mem: &[u8], map: &[u64], budget: u64) -> u64
+    ensures { result ≡ run_refusal_of budget (hart x.now w.now) mem.now map.now }
 {
-    let n = refusal(x, w, mem, pages, leaves);
+    let n = refusal(x, w, mem, map);
     if n == 0 {
         return over(budget);
     }

@@ -4,7 +4,6 @@
 //
 // Its own crate, since it is a second way to the same effects: the definitions are those of `step_meaning` and `csr_words`, and nothing here adds to them.
 ghost use Rattle.std.specs.Prelude.{Bool, List, ◌≡◌, ℕ, ◌<◌};
-ghost use Rattle.address_page.specs.Map.{Map};
 ghost use Rattle.word.specs.Choice.{pick};
 ghost use Rattle.word.specs.Field.{bits};
 ghost use Rattle.isa.specs.declared.CsrSource.TheVariants.{Register};
@@ -116,7 +115,7 @@ fn csr_word(w: u32, x: &mut [u64; 32], rest: &mut [u64; COUNT], o: CsrOperation)
 // One word, by funct3 and opcode, on the registers x and the hart's other words; whether it was done. If so, pc goes on to the next
 // instruction, which is left to the caller.
 pub fn handle(w: u32, x: &mut [u64; 32], rest: &mut [u64; COUNT]) -> bool
-    ensures { (pc ssp : ℕ) (s : Setting) (m : List ℕ) (map : Map) → s.control.mode ≡ mode_of (MODE of (λ x. x.now) rest.entry)
+    ensures { (pc ssp : ℕ) (s : Setting) (m map : List ℕ) → s.control.mode ≡ mode_of (MODE of (λ x. x.now) rest.entry)
         → Handles result (execute_of (decode_of w) w x.entry.now pc ssp s m map)
         x.entry.now rest.old (next_of pc) x.exit.now rest.new }
 {

@@ -6,7 +6,6 @@ use mathlib.Core.List.{List}
 use mathlib.Core.Path.{◌≡◌, refl, ap, ◌∙◌}
 use Prim.Native.Nat.{ℕ}
 use lib.ListN.{length}
-use Rattle.address_page.specs.Map.{Map}
 use Rattle.word.proofs.Choices.{first}
 use Rattle.isa.specs.declared.Access.TheVariants.{Load, Store, Push, Pop}
 use Rattle.isa.specs.declared.Instruction.TheVariants.{Memory}
@@ -51,7 +50,7 @@ pop_parts (At q) rd a b ssp next m = refl
 pop_parts (Fault cause tval) rd a b ssp next m = refl
 
 -- while the active shadow enable is set, a push and a pop-check make their accesses
-module _ (word : ℕ) (x : List ℕ) (pc ssp : ℕ) (s : Setting) (m : List ℕ) (map : Map) (on : s.shadow ≡ true) (r : ℕ) where
+module _ (word : ℕ) (x : List ℕ) (pc ssp : ℕ) (s : Setting) (m map : List ℕ) (on : s.shadow ≡ true) (r : ℕ) where
   pub push_on : execute_of (Memory Push 0 0 r 0) word x pc ssp s m map
       ≡ at_of Push (place_of s.control kind.Push Double (push_of ssp) map (length m)) 0 0 (reg_of x r) ssp (next_of pc) m
   unfolding execute_of access_of passed_of

@@ -3,7 +3,6 @@
 --
 -- Below, x are the registers, rest the hart's other words, m memory; a name with ' is what it is afterwards. s is what the hart's mode and CSRs say.
 use Rattle.std.specs.Prelude.{Bool, true, false, List, ◌≡◌, ℕ}
-use Rattle.address_page.specs.Map.{Map}
 use Rattle.word.specs.declared.field.Fields.{Fields}
 use Rattle.word.specs.Sum.{sum_of}
 use Rattle.isa.specs.declared.Instruction.{Instruction}
@@ -40,6 +39,6 @@ Does false e x rest m pc' x' rest' m' = (x' ≡ x) × (rest' ≡ rest) × (m' �
 -- what a load with these fields and this offset puts into its register, from address a and memory m, where loads are neither masked nor translated
 abbrev pub Loads : (known : Bool) → Instruction → Fields → (off a : ℕ) → (m : List ℕ) → (v : ℕ) → Type 0
 Loads true i f off a m v =
-    (w pc ssp : ℕ) (x : List ℕ) (map : Map) (s : Setting) → flat_of s.control ≡ true → a ≡ sum_of (reg_of x f.rs1) off
+    (w pc ssp : ℕ) (x map : List ℕ) (s : Setting) → flat_of s.control ≡ true → a ≡ sum_of (reg_of x f.rs1) off
     → execute_of i w x pc ssp s m map ≡ Write f.rd v (next_of pc)
 Loads false i f off a m v = Unit {0}

@@ -6,7 +6,6 @@ use mathlib.Core.Path.{◌≡◌, refl, sym, ap, ◌∙◌}
 use Prim.Native.Nat.{ℕ, zero, suc, ◌+◌, ◌-◌, ◌<◌, ◌≤◌}
 use native.Mathlib.Nat.{add_assoc}
 use native.Mathlib.Omega.{arith}
-use Rattle.address_page.specs.Map.{Map}
 use Rattle.step_meaning.specs.declared.Source.{Source}
 use Rattle.step_meaning.specs.declared.Source.TheVariants.{Fetch}
 use Rattle.step_hart.specs.Run.{Run, after, followed, run_from, run_of, Midway}
@@ -27,19 +26,19 @@ one_more : (t : Bool) (o : Outcome) (rest : Run) (n : ℕ) → rest.count ≤ n 
 one_more true o rest n le = omega arith
 one_more false o rest n le = omega (arith, le)
 
-pub within : (n : ℕ) (source : Source) (h : Hart) (m : List ℕ) (map : Map) → (run_from source n h m map).count ≤ n
+pub within : (n : ℕ) (source : Source) (h : Hart) (m map : List ℕ) → (run_from source n h m map).count ≤ n
 unfolding run_from
 within zero source h m map = omega arith
 within (suc n) source h m map =
     let o : Outcome = step_from source h m map in
     one_more o.trapped o (run_of n o.hart o.memory map) n (within n Fetch o.hart o.memory map)
 
-pub told_within : (n : ℕ) (source : Source) (h : Hart) (m : List ℕ) (map : Map) (t : Told) → t ≡ told_of (run_from source n h m map) → t.count ≤ n
+pub told_within : (n : ℕ) (source : Source) (h : Hart) (m map : List ℕ) (t : Told) → t ≡ told_of (run_from source n h m map) → t.count ≤ n
 told_within n source h m map t e = rw e (within n source h m map)
 
 -- a run of n steps, and then of more: where the first traps it is the whole, else the second goes on from its end
 
-no_step : (source : Source) (h : Hart) (m : List ℕ) (map : Map) → (run_from source 0 h m map).trapped ≡ true → ⊥
+no_step : (source : Source) (h : Hart) (m map : List ℕ) → (run_from source 0 h m map).trapped ≡ true → ⊥
 unfolding run_from
 no_step source h m map q = true≢false (sym q)
 
@@ -49,7 +48,7 @@ no_more t r rest q = rw q
 some_more : (t : Bool) (r rest : Run) → t ≡ false → onward t r rest ≡ after r.count rest
 some_more t r rest q = rw q
 
-module _ (source : Source) (more : ℕ) (h : Hart) (m : List ℕ) (map : Map) where
+module _ (source : Source) (more : ℕ) (h : Hart) (m map : List ℕ) where
   trapped_in : (n : ℕ) → (run_from source n h m map).trapped ≡ true → run_from source (n + more) h m map ≡ run_from source n h m map
   trapped_in zero q = absurd (no_step source h m map q)
   trapped_in (suc n) q = run_composes_from source n more h m map ∙ no_more _ _ _ q
@@ -64,7 +63,7 @@ module _ (source : Source) (more : ℕ) (h : Hart) (m : List ℕ) (map : Map) wh
       (run_count (suc n) source h m map q)
 
 -- the next n steps of a run that was taken up in its middle, and what the code has after them: what they tell, the hart and memory
-module _ (whole : Run) (budget left n : ℕ) (source : Source) (g : Hart) (m : List ℕ) (map : Map) (now : Midway whole budget left source g m map)
+module _ (whole : Run) (budget left n : ℕ) (source : Source) (g : Hart) (m map : List ℕ) (now : Midway whole budget left source g m map)
     (le : n ≤ left) (t : Told) (h : Hart) (m' : List ℕ) (tells : Tells (run_from source n g m map) t h m') where
   abbrev part : Run
   part = run_from source n g m map
@@ -91,7 +90,7 @@ module _ (whole : Run) (budget left n : ℕ) (source : Source) (g : Hart) (m : L
       rw (wholly part (trapped_in source (left - n) g m map n p), e, tells.0, p) (refl, tells.1)
 
 -- the first n steps of a run
-module _ (source : Source) (budget n : ℕ) (g : Hart) (m : List ℕ) (map : Map) (le : n ≤ budget) (t : Told) (h : Hart) (m' : List ℕ)
+module _ (source : Source) (budget n : ℕ) (g : Hart) (m map : List ℕ) (le : n ≤ budget) (t : Told) (h : Hart) (m' : List ℕ)
     (tells : Tells (run_from source n g m map) t h m') where
   -- they trapped
   pub ends_first : t.trapped ≡ true → Tells (run_from source budget g m map) t h m'

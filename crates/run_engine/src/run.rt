@@ -1,7 +1,6 @@
 // A run: steps up to and including the first that traps, or until the budget is spent. Its first steps go the short way, and the others by turns on the
 // fast path and the short way.
 ghost use Rattle.std.specs.Prelude.{◌≡◌, ◌^◌, ◌<◌, ◌≤◌, length};
-ghost use Rattle.address_page.specs.Lent.{map_of};
 ghost use Rattle.step_meaning.specs.Context.{Knows};
 ghost use Rattle.step_meaning.specs.declared.Source.TheVariants.{Fetch};
 ghost use Rattle.csr_words.specs.Setting.{setting_of};
@@ -50,26 +49,25 @@ fn short(
     w: &mut [u64; COUNT],
     source: Source,
     mem: &mut [u8],
-    pages: &[u32],
-    leaves: &[u64],
+    map: &[u64],
     budget: u64,
 ) -> Told
     requires { length mem.old ≤ 2 ^ 20 }
-    ensures answer { result ≡ told_of (run_from source budget (hart x.old w.old) mem.old (map_of pages.now leaves.now)) }
+    ensures answer { result ≡ told_of (run_from source budget (hart x.old w.old) mem.old map.now) }
     ensures hart { hart x.new w.new
-        ≡ (run_from source budget (hart x.old w.old) mem.old (map_of pages.now leaves.now)).hart }
+        ≡ (run_from source budget (hart x.old w.old) mem.old map.now).hart }
     ensures memory { mem.new ≡ (run_from source budget (hart x.old w.old) mem.old
-        (map_of pages.now leaves.now)).memory }
+        map.now).memory }
 {
     let mut from = source;
     let mut left = budget;
     let mut k = known(w);
     while 0 < left {
-        left = run_glide::glide(x, w, from, k, mem, pages, leaves, left);
+        left = run_glide::glide(x, w, from, k, mem, map, left);
         if left == 0 {
             return report(budget, false, 0);
         }
-        let t = step::one(x, w, from, k.setting, mem, pages, leaves);
+        let t = step::one(x, w, from, k.setting, mem, map);
         from = Source::Fetch;
         left = left - 1;
         if t.trapped {
@@ -121,32 +119,25 @@ fn pause(steps: u64, wait: u64) -> u64
 
 // A run of many steps, on the fast path as long as it goes. That is called from two places, so that the compiler leaves its memo out of the frame of
 // short runs, which would pay for it.
-fn long(
-    x: &mut [u64; 32],
-    w: &mut [u64; COUNT],
-    mem: &mut [u8],
-    pages: &[u32],
-    leaves: &[u64],
-    budget: u64,
-) -> Told
+fn long(x: &mut [u64; 32], w: &mut [u64; COUNT], mem: &mut [u8], map: &[u64], budget: u64) -> Told
     requires { length mem.old ≤ 2 ^ 20 }
-    ensures answer { result ≡ told_of (run_from Fetch budget (hart x.old w.old) mem.old (map_of pages.now leaves.now)) }
+    ensures answer { result ≡ told_of (run_from Fetch budget (hart x.old w.old) mem.old map.now) }
     ensures hart { hart x.new w.new
-        ≡ (run_from Fetch budget (hart x.old w.old) mem.old (map_of pages.now leaves.now)).hart }
+        ≡ (run_from Fetch budget (hart x.old w.old) mem.old map.now).hart }
     ensures memory { mem.new ≡ (run_from Fetch budget (hart x.old w.old) mem.old
-        (map_of pages.now leaves.now)).memory }
+        map.now).memory }
 {
-    let mut left = run_fast::fast(x, w, mem, pages, leaves, budget);
+    let mut left = run_fast::fast(x, w, mem, map, budget);
     let mut steps = budget - left;
     let mut wait = 0;
     while 0 < left {
         wait = pause(steps, wait);
         let n = few(left, wait);
-        let t = short(x, w, Source::Fetch, mem, pages, leaves, n);
+        let t = short(x, w, Source::Fetch, mem, map, n);
         if t.trapped {
             return report(budget - left + t.count, true, t.cause);
         }
-        let rest = run_fast::fast(x, w, mem, pages, leaves, left - n);
+        let rest = run_fast::fast(x, w, mem, map, left - n);
         steps = left - n - rest;
         left = rest;
     }
@@ -158,26 +149,25 @@ pub fn run(
     w: &mut [u64; COUNT],
     source: Source,
     mem: &mut [u8],
-    pages: &[u32],
-    leaves: &[u64],
+    map: &[u64],
     budget: u64,
 ) -> Told
     requires { length mem.old ≤ 2 ^ 20 }
-    ensures answer { result ≡ told_of (run_from source budget (hart x.old w.old) mem.old (map_of pages.now leaves.now)) }
+    ensures answer { result ≡ told_of (run_from source budget (hart x.old w.old) mem.old map.now) }
     ensures hart { hart x.new w.new
-        ≡ (run_from source budget (hart x.old w.old) mem.old (map_of pages.now leaves.now)).hart }
+        ≡ (run_from source budget (hart x.old w.old) mem.old map.now).hart }
     ensures memory { mem.new ≡ (run_from source budget (hart x.old w.old) mem.old
-        (map_of pages.now leaves.now)).memory }
+        map.now).memory }
 {
     let first = few(budget, FIRST);
-    let t = short(x, w, source, mem, pages, leaves, first);
+    let t = short(x, w, source, mem, map, first);
     if t.trapped {
         return t;
     }
     if budget == first {
         return t;
     }
-    let u = long(x, w, mem, pages, leaves, budget - first);
+    let u = long(x, w, mem, map, budget - first);
     report(first + u.count, u.trapped, u.cause)
 }
 
@@ -191,21 +181,14 @@ pub struct Ran {
 }
 
 // The same of a hart by value.
-pub fn of_hart(
-    mut h: Hart,
-    source: Source,
-    mem: &mut [u8],
-    pages: &[u32],
-    leaves: &[u64],
-    budget: u64,
-) -> Ran
+pub fn of_hart(mut h: Hart, source: Source, mem: &mut [u8], map: &[u64], budget: u64) -> Ran
     requires { length mem.old ≤ 2 ^ 20 }
-    ensures answer { result ≡ ran_of (run_from source budget h mem.old (map_of pages.now leaves.now)) }
-    ensures memory { mem.new ≡ (run_from source budget h mem.old (map_of pages.now leaves.now)).memory }
+    ensures answer { result ≡ ran_of (run_from source budget h mem.old map.now) }
+    ensures memory { mem.new ≡ (run_from source budget h mem.old map.now).memory }
 {
     let mut x = h.x;
     let mut w = h.words;
-    let t = run(&mut x, &mut w, source, mem, pages, leaves, budget);
+    let t = run(&mut x, &mut w, source, mem, map, budget);
     h.x = x;
     h.words = w;
     Ran {

@@ -9,7 +9,6 @@ use borrow.Author.Tests.{eqb-true, eqb-false}
 use lib.Dec.{eqb}
 use lib.ListN.{length, get_or, set, length-set, replicate, get_or-replicate}
 use lib.Seq.{get_or-set_same, get_or-set_other}
-use Rattle.address_page.specs.Map.{Map}
 use Rattle.csr_setting.specs.declared.Setting.{Setting}
 use Rattle.run_form.specs.declared.Form.{Form}
 use Rattle.run_form.specs.declared.Op.{Op}
@@ -18,7 +17,7 @@ use Rattle.run_fast.specs.Memo.{none, slot_of, tag_at, index_at, form_at, sum_at
 use Rattle.run_fast.proofs.Fetched.{read_as}
 
 -- at first every entry is empty
-pub blank : (bytes : List ℕ) (ops : List Op) (s : Setting) (m : List ℕ) (map : Map) → Holds (replicate 12288 none) bytes ops s m map
+pub blank : (bytes : List ℕ) (ops : List Op) (s : Setting) (m map : List ℕ) → Holds (replicate 12288 none) bytes ops s m map
 blank bytes ops s m map k l n =
     let b : k < 12288 = omega (arith, l) in
     absurd (n (get_or-replicate 12288 k none none b))
@@ -128,7 +127,7 @@ form_as : (o o' : Op) (rd rd' rs1 rs1' rs2 rs2' v v' : ℕ) → o ≡ o' → rd 
     (record { op = o'; rd = rd'; rs1 = rs1'; rs2 = rs2'; value = v' })
 form_as o o' rd rd' rs1 rs1' rs2 rs2' v v' p q r s t = rw (p, q, r, s, t)
 
-module _ (nums bytes : List ℕ) (ops : List Op) (s : Setting) (m : List ℕ) (map : Map) (f : Form) (at pc sum : ℕ) (ln : length nums ≡ 12288)
+module _ (nums bytes : List ℕ) (ops : List Op) (s : Setting) (m map : List ℕ) (f : Form) (at pc sum : ℕ) (ln : length nums ≡ 12288)
     (lb : length bytes ≡ 16640) (lo : length ops ≡ 4096) (most : at < 2 ^ 20) (told : sum ≡ 1 → f.op ≡ Add) where
   abbrev i : ℕ
   i = slot_of pc

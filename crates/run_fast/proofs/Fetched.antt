@@ -5,7 +5,6 @@ use mathlib.Core.Path.{◌≡◌}
 use Prim.Native.Nat.{ℕ, ◌+◌, ◌-◌, ◌%◌, ◌^◌, ◌<◌, ◌≤◌}
 use native.Mathlib.Omega.{arith}
 use lib.ListN.{length}
-use Rattle.address_page.specs.Map.{Map}
 use Rattle.isa.specs.declared.Kind.TheVariants.{Fetch}
 use Rattle.isa.specs.declared.Width.TheVariants.{Word}
 use Rattle.decode.specs.Decode.{decode_of}
@@ -21,7 +20,7 @@ use Rattle.run_form.specs.Form.{Means}
 use Rattle.run_form.specs.declared.Form.{Form}
 use Rattle.run_fast.specs.Memo.{Read}
 
-module _ (f : Form) (at pc : ℕ) (s : Setting) (m : List ℕ) (map : Map) (r : Read f at pc s m map) where
+module _ (f : Form) (at pc : ℕ) (s : Setting) (m map : List ℕ) (r : Read f at pc s m map) where
   abbrev q : Physical
   q = record { 0 = base + at }
 
@@ -45,12 +44,12 @@ module _ (f : Form) (at pc : ℕ) (s : Setting) (m : List ℕ) (map : Map) (r : 
   still m' l w = record { place = rw l r.place; means = rw w r.means; small = r.small }
 
 -- by other names
-pub read_as : (f g : Form) (at to pc pd : ℕ) (s : Setting) (m : List ℕ) (map : Map) → g ≡ f → to ≡ at → pd ≡ pc → Read f at pc s m map
+pub read_as : (f g : Form) (at to pc pd : ℕ) (s : Setting) (m map : List ℕ) → g ≡ f → to ≡ at → pd ≡ pc → Read f at pc s m map
     → Read g to pd s m map
 read_as f g at to pc pd s m map e d p r = rw (e, d, p) r
 
 -- read anew: a fetch has this place, and the form is that of the word there
-pub found : (f : Form) (at w pc : ℕ) (s : Setting) (m : List ℕ) (map : Map) (q : Physical)
+pub found : (f : Form) (at w pc : ℕ) (s : Setting) (m map : List ℕ) (q : Physical)
     → place_of s.control Fetch Word pc map (length m) ≡ At q → at ≡ q.0 - base → length m ≤ 2 ^ 20
     → w ≡ load_of m at 4 → Means f (decode_of w) w pc s → (f.rd < 32) × (f.rs1 < 32) × (f.rs2 < 32)
     → (at < 2 ^ 20) × Read f at pc s m map

@@ -5,7 +5,6 @@ use mathlib.Core.Logic.{⊎_elim}
 use mathlib.Core.Path.{◌≡◌, ◌∙◌, ap}
 use Prim.Native.Nat.{ℕ, ◌-◌, ◌/◌, ◌%◌, ◌<◌}
 use native.Mathlib.Omega.{arith}
-use Rattle.address_page.specs.Map.{Map}
 use Rattle.word.proofs.Either.{either}
 use Rattle.memory.specs.Bytes.{load_of}
 use Rattle.memory.proofs.Stores.{load_ext}
@@ -27,7 +26,7 @@ word_kept m m' at stored t a n =
     either 0 stored (λ h. load_ext m' m at 4 t.2 (λ j p q. t.3 j (λ e. n h (omega (arith, a, p, q, e)))))
     (λ o. ap (λ (l : List ℕ). load_of l at 4) (t.0 (omega (arith, o))))
 
-module _ (nums bytes nums' : List ℕ) (ops : List Op) (s : Setting) (m m' : List ℕ) (map : Map) (stored : ℕ) (t : Touched stored m m')
+module _ (nums bytes nums' : List ℕ) (ops : List Op) (s : Setting) (m m' map : List ℕ) (stored : ℕ) (t : Touched stored m m')
     (e : Emptied nums bytes stored nums') where
   -- an entry that is left has its old address
   same_tag : (k : ℕ) → k < 4096 → (tag_at nums' k ≡ none → ⊥) → tag_at nums' k ≡ tag_at nums k

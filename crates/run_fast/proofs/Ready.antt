@@ -7,7 +7,6 @@ use Prim.Native.Nat.{ℕ, zero, suc, ◌+◌, ◌%◌, ◌^◌, ◌<◌}
 use native.Mathlib.Omega.{arith}
 use lib.ListN.{length, length-set, get_or, set}
 use lib.Seq.{get_or-set_same, get_or-set_other}
-use Rattle.address_page.specs.Map.{Map}
 use Rattle.word.proofs.Choices.{first}
 use Rattle.word.specs.Choice.{pick}
 use Rattle.csr_setting.specs.declared.Setting.{Setting}
@@ -17,12 +16,12 @@ use Rattle.run_fast.specs.Memo.{none, slot_of, tag_at, index_at, form_at, sum_at
 use Rattle.run_fast.specs.declared.Known.{Known}
 use Rattle.run_fast.proofs.Entries.{entered}
 
-abbrev pub Ready : (nums bytes : List ℕ) → (ops : List Op) → (pc : ℕ) → Setting → (m : List ℕ) (map : Map) → Type 0
+abbrev pub Ready : (nums bytes : List ℕ) → (ops : List Op) → (pc : ℕ) → Setting → (m map : List ℕ) → Type 0
 Ready nums bytes ops pc s m map =
     (length nums ≡ 12288) × (length ops ≡ 4096) × (tag_at nums (slot_of pc) ≡ pc) × Holds nums bytes ops s m map
 
 -- what an entry of pc says
-module _ (nums bytes : List ℕ) (ops : List Op) (pc : ℕ) (s : Setting) (m : List ℕ) (map : Map) (z : pc % 4 ≡ 0) (r : Ready nums bytes ops pc s m map) where
+module _ (nums bytes : List ℕ) (ops : List Op) (pc : ℕ) (s : Setting) (m map : List ℕ) (z : pc % 4 ≡ 0) (r : Ready nums bytes ops pc s m map) where
   stands : Stands nums bytes ops (slot_of pc) s m map
   stands = r.3 (slot_of pc) (omega arith) (λ e. let d : pc ≡ none = sym r.2 ∙ e in omega (arith, z, d))
 
@@ -39,7 +38,7 @@ within (x ∷ l) zero h = refl
 within (x ∷ l) (suc k) h = within l k (omega (arith, h))
 
 -- an entry whose address was found to be pc
-pub is_ready : (nums bytes : List ℕ) (ops : List Op) (pc : ℕ) (s : Setting) (m : List ℕ) (map : Map) (nums' bytes' : List ℕ) (ops' : List Op)
+pub is_ready : (nums bytes : List ℕ) (ops : List Op) (pc : ℕ) (s : Setting) (m map : List ℕ) (nums' bytes' : List ℕ) (ops' : List Op)
     → length nums ≡ 12288 → length ops ≡ 4096 → Holds nums bytes ops s m map → get_or nums (slot_of pc) 0 ≡ pc
     → nums' ≡ nums → bytes' ≡ bytes → ops' ≡ ops → Ready nums' bytes' ops' pc s m map
 is_ready nums bytes ops pc s m map nums' bytes' ops' ln lo holds tag en eb eo =
@@ -59,7 +58,7 @@ many nums pc at value =
     length-set (set (set nums k pc) (k + 4096) at) (k + 8192) value ∙ length-set (set nums k pc) (k + 4096) at ∙ length-set nums k pc
 
 -- an entry that was read anew
-pub made_ready : (nums bytes : List ℕ) (ops : List Op) (pc : ℕ) (s : Setting) (m : List ℕ) (map : Map) (e : Known) (nums' bytes' : List ℕ) (ops' : List Op)
+pub made_ready : (nums bytes : List ℕ) (ops : List Op) (pc : ℕ) (s : Setting) (m map : List ℕ) (e : Known) (nums' bytes' : List ℕ) (ops' : List Op)
     → length nums ≡ 12288 → length bytes ≡ 16640 → length ops ≡ 4096 → Holds nums bytes ops s m map → e.there ≡ true
     → (e.there ≡ true → (e.at < 2 ^ 20) × Read e.form e.at pc s m map)
     → nums' ≡ pick e.there (nums_with nums pc e.at e.form.value) nums

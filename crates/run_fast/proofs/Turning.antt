@@ -9,7 +9,6 @@ use native.Mathlib.Omega.{arith}
 use lib.Dec.{eqb}
 use lib.ListN.{get_or, set}
 use borrow.Author.Tests.{eqb-true}
-use Rattle.address_page.specs.Map.{Map}
 use Rattle.word.specs.Choice.{pick}
 use Rattle.word.specs.Sum.{sum_of}
 use Rattle.isa.specs.Size.{width_of}
@@ -51,14 +50,14 @@ use Rattle.run_turn.proofs.Gliding.{quickly, by_handler}
 use Rattle.run_fast.specs.Memo.{Read}
 
 -- the word that was read is the one that a fetch gives
-pub fetches : (f : Form) (at pc : ℕ) (w m : List ℕ) (map : Map) → Read f at pc (setting_of w) m map → Fetches (load_of m at 4) pc w m map
+pub fetches : (f : Form) (at pc : ℕ) (w m map : List ℕ) → Read f at pc (setting_of w) m map → Fetches (load_of m at 4) pc w m map
 unfolding fetched_of
 fetches f at pc w m map r =
     let e : base + at - base ≡ at = omega arith in
     rw (r.place, e)
 
 -- what is left is not done, and any other form does what the instruction does
-module _ (f : Form) (at pc : ℕ) (x w m : List ℕ) (map : Map) (zero : reg_of x 0 ≡ 0) (r : Read f at pc (setting_of w) m map)
+module _ (f : Form) (at pc : ℕ) (x w m map : List ℕ) (zero : reg_of x 0 ≡ 0) (r : Read f at pc (setting_of w) m map)
     (fits : reg_of x f.rs2 < 2 ^ 64) (small : f.value < 2 ^ 64) (pc' : ℕ) (x' w' m' : List ℕ) where
   abbrev does : Effect
   does = does_of f.op f.rd (reg_of x f.rs1) (reg_of x f.rs2) f.value pc (SSP of w) (setting_of w).control m map
@@ -75,7 +74,7 @@ module _ (f : Form) (at pc : ℕ) (x w m : List ℕ) (map : Map) (zero : reg_of 
       ⊎_elim (λ l. undone l d) (λ e. subst (λ (g : Effect). Applied g x w m pc' x' w' m') (sym (e x (SSP of w) m map zero fits small)) d) r.means
   as_executed false d = d
 
-pub acted : (f : Form) (at pc : ℕ) (x w m : List ℕ) (map : Map) → Straight w → reg_of x 0 ≡ 0 → Read f at pc (setting_of w) m map
+pub acted : (f : Form) (at pc : ℕ) (x w m map : List ℕ) → Straight w → reg_of x 0 ≡ 0 → Read f at pc (setting_of w) m map
     → reg_of x f.rs2 < 2 ^ 64 → f.value < 2 ^ 64 → (done : Bool) (pc' : ℕ) (x' w' m' : List ℕ)
     → Does done (does_of f.op f.rd (reg_of x f.rs1) (reg_of x f.rs2) f.value pc (SSP of w) (setting_of w).control m map) x w m pc' x' w'
     m'
@@ -169,7 +168,7 @@ unfolding at_of
 at_lands k (place.At q) rd a b ssp next m z = done_lands k q rd a b ssp next m z
 at_lands k (place.Fault cause tval) rd a b ssp next m z = tt
 
-module _ (rd a r v pc ssp : ℕ) (c : Control) (m : List ℕ) (map : Map) (z : pc % 4 ≡ 0) where
+module _ (rd a r v pc ssp : ℕ) (c : Control) (m map : List ℕ) (z : pc % 4 ≡ 0) where
   next_lands : next_of pc % 4 ≡ 0
   next_lands = omega (arith, z)
 
@@ -189,7 +188,7 @@ module _ (rd a r v pc ssp : ℕ) (c : Control) (m : List ℕ) (map : Map) (z : p
   acted_lands o x w m' pc' x' w' d = landed (shape_does (shape_of o) rd a r v pc ssp c m map) x w m pc' x' w' m' (shape_lands (shape_of o)) d
 
 -- a form was carried out, or nothing changed
-module _ (f : Form) (at pc : ℕ) (x w m : List ℕ) (map : Map) (s : Setting) (st : Straight w) (zero : reg_of x 0 ≡ 0) (z : pc % 4 ≡ 0) (es : setting_of w ≡ s)
+module _ (f : Form) (at pc : ℕ) (x w m map : List ℕ) (s : Setting) (st : Straight w) (zero : reg_of x 0 ≡ 0) (z : pc % 4 ≡ 0) (es : setting_of w ≡ s)
     (r : Read f at pc s m map) (o : Op) (rd a b v : ℕ) (eo : o ≡ f.op) (erd : rd ≡ f.rd) (ea : a ≡ reg_of x f.rs1) (eb : b ≡ reg_of x f.rs2)
     (ev : v ≡ f.value) (hb : b < 2 ^ 64) (hv : v < 2 ^ 64) (done : Bool) (pc' : ℕ) (x' w' m' : List ℕ)
     (d : Does done (does_of o rd a b v pc (SSP of w) s.control m map) x w m pc' x' w' m') where
@@ -211,7 +210,7 @@ module _ (f : Form) (at pc : ℕ) (x w m : List ℕ) (map : Map) (s : Setting) (
   stayed t = rw t at d
 
 -- a form that adds was carried out by itself: its sum was written, and pc went on
-module _ (f : Form) (at pc : ℕ) (x w m : List ℕ) (map : Map) (s : Setting) (st : Straight w) (zero : reg_of x 0 ≡ 0) (z : pc % 4 ≡ 0) (es : setting_of w ≡ s)
+module _ (f : Form) (at pc : ℕ) (x w m map : List ℕ) (s : Setting) (st : Straight w) (zero : reg_of x 0 ≡ 0) (z : pc % 4 ≡ 0) (es : setting_of w ≡ s)
     (r : Read f at pc s m map) (hb : reg_of x f.rs2 < 2 ^ 64) (hv : f.value < 2 ^ 64) (pc' : ℕ) (x' : List ℕ) (adds : f.op ≡ op.Add)
     (d : (pc' ≡ next_of pc) × (x' ≡ put_of f.rd (sum_of (reg_of x f.rs1) (sum_of (reg_of x f.rs2) f.value)) x)) where
   does_sum : Does true (does_of f.op f.rd (reg_of x f.rs1) (reg_of x f.rs2) f.value pc (SSP of w) s.control m map) x w m pc' x' w m
@@ -229,9 +228,9 @@ unfolding setting_of control_of
 mode_said w = refl
 
 -- a trap handler's CSR instruction was carried out, or nothing changed: x₁, w₁ and m₁ are what a form left, which was not carried out
-module _ (f : Form) (at pc : ℕ) (x w m : List ℕ) (map : Map) (s : Setting) (st : Straight w) (zero : reg_of x 0 ≡ 0) (es : setting_of w ≡ s)
+module _ (f : Form) (at pc : ℕ) (x w m map : List ℕ) (s : Setting) (st : Straight w) (zero : reg_of x 0 ≡ 0) (es : setting_of w ≡ s)
     (r : Read f at pc s m map) (x₁ w₁ m₁ : List ℕ) (at₁ : ℕ) (ex : x₁ ≡ x) (ew : w₁ ≡ w) (em : m₁ ≡ m) (ea : at₁ ≡ at) (done : Bool) (x' w' : List ℕ)
-    (h : (p ssp : ℕ) (t : Setting) (n : List ℕ) (map' : Map) → t.control.mode ≡ mode_of (MODE of w₁)
+    (h : (p ssp : ℕ) (t : Setting) (n map' : List ℕ) → t.control.mode ≡ mode_of (MODE of w₁)
     → Handles done (execute_of (decode_of (load_of m₁ at₁ 4)) (load_of m₁ at₁ 4) x₁ p ssp t n map') x₁ w₁ (next_of p) x' w') where
   same_handled : Handles done (execute_of (decode_of (load_of m at 4)) (load_of m at 4) x pc (SSP of w) (setting_of w) m map) x w (next_of pc) x' w'
   same_handled = (rw (ex, ew, em, ea) at h) pc (SSP of w) (setting_of w) m map (mode_said w)
@@ -247,7 +246,7 @@ module _ (f : Form) (at pc : ℕ) (x w m : List ℕ) (map : Map) (s : Setting) (
   handled_off t = rw t at same_handled
 
 -- where nothing changed, what is left of the whole is what it was
-pub returned : (whole : Run) (budget left pc : ℕ) (x w m x' w' m' : List ℕ) (map : Map) (t : Setting) → x' ≡ x → w' ≡ w → m' ≡ m
+pub returned : (whole : Run) (budget left pc : ℕ) (x w m x' w' m' map : List ℕ) (t : Setting) → x' ≡ x → w' ≡ w → m' ≡ m
     → Midway whole budget left Fetch (hart_at pc x w) m map → setting_of w ≡ t
     → Midway whole budget left Fetch (hart_at pc x' w') m' map × (setting_of w' ≡ t)
 returned whole budget left pc x w m x' w' m' map t ex ew em d e = rw (ex, ew, em) (d, e)

@@ -5,7 +5,6 @@
 -- registers, rd, rs1 and rs2, and whether each is a sum, 4,096 each, and a flag for each of the 256 frames of memory; ops their forms' operations. s is
 -- what the hart's mode and CSRs say, m memory. An empty entry has the address `none`.
 use Rattle.std.specs.Prelude.{Bool, List, ◌⊎◌, ◌≡◌, ℕ, ◌+◌, ◌-◌, ◌/◌, ◌%◌, ◌<◌, length, get_or, set}
-use Rattle.address_page.specs.Map.{Map}
 use Rattle.word.specs.Choice.{pick}
 use Rattle.isa.specs.declared.Kind.TheVariants.{Fetch}
 use Rattle.isa.specs.declared.Width.TheVariants.{Word}
@@ -52,20 +51,20 @@ abbrev pub flag_at : (bytes : List ℕ) → (i : ℕ) → ℕ
 flag_at bytes i = get_or bytes (i / 4096 + 16384) 0
 
 -- what was read at pc: the word stands at this index, and the form does what its instruction does
-pub record Read (f : Form) (at pc : ℕ) (s : Setting) (m : List ℕ) (map : Map) : Type 0 where
+pub record Read (f : Form) (at pc : ℕ) (s : Setting) (m map : List ℕ) : Type 0 where
   pub place : place_of s.control Fetch Word pc map (length m) ≡ At (record { 0 = base + at })
   pub means : Means f (decode_of (load_of m at 4)) (load_of m at 4) pc s
   pub small : (f.rd < 32) × (f.rs1 < 32) × (f.rs2 < 32)
 
 -- an entry is that of its address, was read there, adds if it is said to be a sum, and its frame is known to have one
-pub record Stands (nums bytes : List ℕ) (ops : List Op) (k : ℕ) (s : Setting) (m : List ℕ) (map : Map) : Type 0 where
+pub record Stands (nums bytes : List ℕ) (ops : List Op) (k : ℕ) (s : Setting) (m map : List ℕ) : Type 0 where
   pub slot : slot_of (tag_at nums k) ≡ k
   pub read : Read (form_at nums bytes ops k) (index_at nums k) (tag_at nums k) s m map
   pub sum : sum_at bytes k ≡ 1 → get_or ops k Add ≡ Add
   pub flag : flag_at bytes (index_at nums k) ≡ 1
 
 -- each entry that is not empty stands
-abbrev pub Holds : (nums bytes : List ℕ) → (ops : List Op) → Setting → (m : List ℕ) (map : Map) → Type 0
+abbrev pub Holds : (nums bytes : List ℕ) → (ops : List Op) → Setting → (m map : List ℕ) → Type 0
 Holds nums bytes ops s m map = (k : ℕ) → k < 4096 → (tag_at nums k ≡ none → ⊥) → Stands nums bytes ops k s m map
 
 -- an entry of pc that was read anew

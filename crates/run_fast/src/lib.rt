@@ -4,8 +4,6 @@
 //
 // The memo and the remembered pages are locals of `steps`, which has one setting: where that changes it has ended, and what was remembered is gone.
 ghost use Rattle.std.specs.Prelude.{true, false, List, ◌≡◌, ℕ, ◌+◌, ◌/◌, ◌%◌, ◌^◌, ◌<◌, ◌≤◌, length, get_or};
-ghost use Rattle.address_page.specs.Lent.{map_of};
-ghost use Rattle.address_page.specs.Map.{Map};
 ghost use Rattle.word.specs.Choice.{pick};
 ghost use Rattle.word.specs.Sum.{sum_of};
 ghost use Rattle.decode.specs.Decode.{decode_of};
@@ -64,12 +62,12 @@ fn of_word(w: u32, pc: u64, s: Setting) -> Form
     run_form::formed(plain(w), pc, s)
 }
 
-fn read(pc: u64, s: Setting, mem: &[u8], pages: &[u32], leaves: &[u64]) -> Known
+fn read(pc: u64, s: Setting, mem: &[u8], map: &[u64]) -> Known
     requires { length mem.now ≤ 2 ^ 20 }
-    ensures { result.there ≡ true → (result.at < 2 ^ 20) × Read result.form result.at pc s mem.now (map_of pages.now leaves.now) }
+    ensures { result.there ≡ true → (result.at < 2 ^ 20) × Read result.form result.at pc s mem.now map.now }
 {
     let c = s.control;
-    match fetch(c, Virtual(pc), pages, leaves, mem) {
+    match fetch(c, Virtual(pc), map, mem) {
         Place::At(q) => {
             let at = q.index();
             let f = of_word(memory::word(mem, at), pc, s);
@@ -128,17 +126,16 @@ fn enter(
     pc: u64,
     s: Setting,
     mem: &[u8],
-    pages: &[u32],
-    leaves: &[u64],
+    map: &[u64],
 ) -> Known
     requires { length mem.now ≤ 2 ^ 20 }
-    ensures read { result.there ≡ true → (result.at < 2 ^ 20) × Read result.form result.at pc s mem.now (map_of pages.now leaves.now) }
+    ensures read { result.there ≡ true → (result.at < 2 ^ 20) × Read result.form result.at pc s mem.now map.now }
     ensures nums { nums.new ≡ pick result.there (nums_with nums.old pc result.at result.form.value) nums.old }
     ensures bytes { Entered result.there bytes.old pc result.at result.form bytes.new }
     ensures lengths { (length nums.old ≡ 12288) × (length bytes.old ≡ 16640) }
 {
     measured(*nums, *bytes);
-    let e = read(pc, s, mem, pages, leaves);
+    let e = read(pc, s, mem, map);
     if e.there {
         let f = e.form;
         fill(nums, bytes, pc, e.at, f);
@@ -237,7 +234,7 @@ fn handled(
     w: &mut [u64; COUNT],
 ) -> bool
     requires { (k < 4096) × (index_at nums.now k + 4 ≤ length mem.now) }
-    ensures { (pc ssp : ℕ) (s : setting.Setting) (m : List ℕ) (map : Map) → s.control.mode ≡ mode_of (MODE of (λ x. x.now) w.entry)
+    ensures { (pc ssp : ℕ) (s : setting.Setting) (m map : List ℕ) → s.control.mode ≡ mode_of (MODE of (λ x. x.now) w.entry)
         → Handles result (execute_of (decode_of (load_of mem.now (index_at nums.now k) 4))
         (load_of mem.now (index_at nums.now k) 4) x.entry.now pc ssp s m map)
         x.entry.now w.old (next_of pc) x.exit.now w.new }
@@ -253,25 +250,24 @@ fn steps(
     start: u64,
     s: Setting,
     mem: &mut [u8],
-    pages: &[u32],
-    leaves: &[u64],
+    map: &[u64],
     budget: u64,
 ) -> Glided
     requires { (length mem.old ≤ 2 ^ 20) × Straight w.old × (s ≡ setting_of w.old) × (get_or x.old 0 0 ≡ 0) × (start % 4 ≡ 0) }
-    ensures steps { Glides budget start x.old w.old mem.old (map_of pages.now leaves.now) result x.new
+    ensures steps { Glides budget start x.old w.old mem.old map.now result x.new
         w.new mem.new }
     ensures words { setting_of w.new ≡ setting_of w.old }
 {
     let mut nums: [u64; NUMS] = [EMPTY; NUMS];
     let mut bytes: [u8; BYTES] = [0; BYTES];
     let mut ops: [Op; 4096] = [Op::Left; 4096];
-    let mut ps: [u64; PAGES] = [8; PAGES];
+    let mut pages: [u64; PAGES] = [8; PAGES];
     let mut pc = start;
     let mut left = budget;
     while 0 < left {
         let k = (pc / 4 % 4096) as usize;
         if nums[k] != pc {
-            let e = enter(&mut nums, &mut bytes, pc, s, mem, pages, leaves);
+            let e = enter(&mut nums, &mut bytes, pc, s, mem, map);
             let f = e.form;
             let op = f.op;
             if e.there {
@@ -297,9 +293,8 @@ fn steps(
             pc,
             s.control,
             mem,
-            pages,
-            leaves,
-            &mut ps,
+            map,
+            &mut pages,
         );
         if t.done {
             empty(&mut nums, &bytes, t.stored);
@@ -334,19 +329,18 @@ pub fn fast(
     x: &mut [u64; 32],
     w: &mut [u64; COUNT],
     mem: &mut [u8],
-    pages: &[u32],
-    leaves: &[u64],
+    map: &[u64],
     budget: u64,
 ) -> u64
     requires { length mem.old ≤ 2 ^ 20 }
-    ensures { Midway (run_from Fetch budget (hart x.old w.old) mem.old (map_of pages.now leaves.now)) budget
-        result Fetch (hart x.new w.new) mem.new (map_of pages.now leaves.now) }
+    ensures { Midway (run_from Fetch budget (hart x.old w.old) mem.old map.now) budget
+        result Fetch (hart x.new w.new) mem.new map.now }
 {
     sized(*w);
     let pc = w[PC];
     if open(w[ELP], x[0], pc) {
         let s = setting::setting(w);
-        let g = steps(x, w, pc, s, mem, pages, leaves, budget);
+        let g = steps(x, w, pc, s, mem, map, budget);
         w[PC] = g.pc;
         return g.left;
     }

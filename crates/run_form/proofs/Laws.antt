@@ -6,7 +6,6 @@ use mathlib.Core.Logic.{◌⊎◌, inl, inr}
 use mathlib.Core.Path.{◌≡◌, refl, ap, ◌∙◌}
 use Prim.Native.Nat.{ℕ, ◌^◌, ◌<◌}
 use native.Mathlib.Omega.{arith}
-use Rattle.address_page.specs.Map.{Map}
 use Rattle.word.proofs.Choices.{first, second}
 use Rattle.word.specs.Sum.{sum_of}
 use Rattle.isa.specs.declared.Access.{Access}
@@ -47,7 +46,7 @@ left_means e i word pc s = inl (ap (λ (f : Form). f.op) e)
 -- a form whose shape is known
 shape_means : {f : Form} {i j : Instruction} {o : Op} {rd rs1 rs2 v : ℕ} {h : Shape}
     → f ≡ record { op = o; rd = rd; rs1 = rs1; rs2 = rs2; value = v } → i ≡ j → shape_of o ≡ h → (word pc : ℕ) (s : Setting)
-    → ((x : List ℕ) (ssp : ℕ) (m : List ℕ) (map : Map) → reg_of x 0 ≡ 0 → reg_of x rs2 < 2 ^ 64 → v < 2 ^ 64
+    → ((x : List ℕ) (ssp : ℕ) (m map : List ℕ) → reg_of x 0 ≡ 0 → reg_of x rs2 < 2 ^ 64 → v < 2 ^ 64
     → execute_of j word x pc ssp s m map ≡ shape_does h rd (reg_of x rs1) (reg_of x rs2) v pc ssp s.control m map)
     → Means f i word pc s
 unfolding does_of
@@ -57,7 +56,7 @@ module _ (word pc : ℕ) (s : Setting) where
   -- rd takes a number: a sum with two operands that are 0
   module _ {f : Form} {rd v : ℕ} (ef : f ≡ record { op = op.Add; rd = rd; rs1 = 0; rs2 = 0; value = v }) where
     number_means : {i j : Instruction} → i ≡ j
-        → ((x : List ℕ) (ssp : ℕ) (m : List ℕ) (map : Map) → execute_of j word x pc ssp s m map ≡ Write rd v (next_of pc))
+        → ((x : List ℕ) (ssp : ℕ) (m map : List ℕ) → execute_of j word x pc ssp s m map ≡ Write rd v (next_of pc))
         → Means f i word pc s
     number_means ei p =
         shape_means ef ei refl word pc s (λ x ssp m map z b c.

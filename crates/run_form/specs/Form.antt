@@ -2,7 +2,6 @@
 --
 -- Below, a and r are the values of the two registers, v the form's number, c what the hart's mode and CSRs say about accesses, m memory.
 use Rattle.std.specs.Prelude.{true, false, List, ◌⊎◌, ◌≡◌, ℕ, ◌^◌, ◌<◌, length}
-use Rattle.address_page.specs.Map.{Map}
 use Rattle.word.specs.Sum.{sum_of}
 use Rattle.isa.specs.Size.{width_of}
 use Rattle.isa.specs.declared.Access.{Access}
@@ -105,7 +104,7 @@ shape_of op.ReadSsp = ReadSsp
 shape_of op.Left = Left
 
 -- JALR where no landing pad is expected, push and pop-check where the shadow stack is on; and nothing that is left to the slow path
-abbrev pub shape_does : Shape → (rd a r v pc ssp : ℕ) → Control → (m : List ℕ) (map : Map) → Effect
+abbrev pub shape_does : Shape → (rd a r v pc ssp : ℕ) → Control → (m map : List ℕ) → Effect
 shape_does (Compute o) rd a r v pc ssp c m map = Write rd (operation_of o a (sum_of r v)) (next_of pc)
 shape_does (ComputeWord o) rd a r v pc ssp c m map = Write rd (word_operation_of o a (sum_of r v)) (next_of pc)
 shape_does Jal rd a r v pc ssp c m map = jal_of rd (next_of pc) v
@@ -116,13 +115,13 @@ shape_does (Memory k) rd a r v pc ssp c m map =
 shape_does ReadSsp rd a r v pc ssp c m map = Write rd ssp (next_of pc)
 shape_does Left rd a r v pc ssp c m map = Trap 0 0
 
-unfoldable pub does_of : Op → (rd a r v pc ssp : ℕ) → Control → (m : List ℕ) (map : Map) → Effect
+unfoldable pub does_of : Op → (rd a r v pc ssp : ℕ) → Control → (m map : List ℕ) → Effect
 does_of o rd a r v pc ssp c m map = shape_does (shape_of o) rd a r v pc ssp c m map
 
 -- at pc, under this setting, a form does what the instruction does, whose word this is; or it is left to the slow path
 abbrev pub Means : Form → Instruction → (word pc : ℕ) → Setting → Type 0
 Means f i word pc s =
     (f.op ≡ op.Left)
-    ⊎ ((x : List ℕ) (ssp : ℕ) (m : List ℕ) (map : Map) → reg_of x 0 ≡ 0 → reg_of x f.rs2 < 2 ^ 64 → f.value < 2 ^ 64
+    ⊎ ((x : List ℕ) (ssp : ℕ) (m map : List ℕ) → reg_of x 0 ≡ 0 → reg_of x f.rs2 < 2 ^ 64 → f.value < 2 ^ 64
     → execute_of i word x pc ssp s m map
     ≡ does_of f.op f.rd (reg_of x f.rs1) (reg_of x f.rs2) f.value pc ssp s.control m map)

@@ -1,7 +1,6 @@
 // The quick way through a run: common instructions in place, one after the other, up to one that has to take the slow path. The loop is small
 // enough for the compiler to keep pc and the count in registers.
 ghost use Rattle.std.specs.Prelude.{false, ◌≡◌, ◌^◌, ◌≤◌, length};
-ghost use Rattle.address_page.specs.Lent.{map_of};
 ghost use Rattle.address_place.specs.Window.{Shows};
 ghost use Rattle.step_meaning.specs.Context.{Knows};
 ghost use Rattle.step_meaning.specs.declared.Source.TheVariants.{Fetch};
@@ -27,14 +26,13 @@ fn instruction(
     pc: u64,
     k: Context,
     mem: &mut [u8],
-    pages: &[u32],
-    leaves: &[u64],
+    map: &[u64],
 ) -> Tried
-    requires { (length mem.old ≤ 2 ^ 20) × Straight w.old × Knows k (setting_of w.old) × Fetches word pc w.old mem.old (map_of pages.now leaves.now) }
-    ensures { Turned result.done pc x.old w.old mem.old (map_of pages.now leaves.now) result.pc x.new
+    requires { (length mem.old ≤ 2 ^ 20) × Straight w.old × Knows k (setting_of w.old) × Fetches word pc w.old mem.old map.now }
+    ensures { Turned result.done pc x.old w.old mem.old map.now result.pc x.new
         w.new mem.new }
 {
-    let t = opcodes::word(word, x, w, pc, k, mem, pages, leaves);
+    let t = opcodes::word(word, x, w, pc, k, mem, map);
     if t.done {
         return t;
     }
@@ -55,17 +53,16 @@ fn turn(
     v: Window,
     k: Context,
     mem: &mut [u8],
-    pages: &[u32],
-    leaves: &[u64],
+    map: &[u64],
 ) -> Tried
     requires { (length mem.old ≤ 2 ^ 20) × Straight w.old × Knows k (setting_of w.old)
-        × Shows v k.setting.control (map_of pages.now leaves.now) (length mem.old) }
-    ensures { Turned result.done pc x.old w.old mem.old (map_of pages.now leaves.now) result.pc x.new
+        × Shows v k.setting.control map.now (length mem.old) }
+    ensures { Turned result.done pc x.old w.old mem.old map.now result.pc x.new
         w.new mem.new }
 {
     let f = opcodes::fetch(v, pc, mem);
     if f.seen {
-        return instruction(f.word, x, w, pc, k, mem, pages, leaves);
+        return instruction(f.word, x, w, pc, k, mem, map);
     }
     Tried { done: false, pc }
 }
@@ -78,20 +75,19 @@ fn stretch(
     v: Window,
     k: Context,
     mem: &mut [u8],
-    pages: &[u32],
-    leaves: &[u64],
+    map: &[u64],
     budget: u64,
 ) -> Glided
     requires { (length mem.old ≤ 2 ^ 20) × Straight w.old × Knows k (setting_of w.old)
-        × Shows v k.setting.control (map_of pages.now leaves.now) (length mem.old) }
-    ensures steps { Glides budget start x.old w.old mem.old (map_of pages.now leaves.now) result x.new
+        × Shows v k.setting.control map.now (length mem.old) }
+    ensures steps { Glides budget start x.old w.old mem.old map.now result x.new
         w.new mem.new }
     ensures words { Straight w.new × (setting_of w.new ≡ setting_of w.old) }
 {
     let mut pc = start;
     let mut left = budget;
     while 0 < left {
-        let t = turn(x, w, pc, v, k, mem, pages, leaves);
+        let t = turn(x, w, pc, v, k, mem, map);
         if t.done {
             pc = t.pc;
             left = left - 1;
@@ -109,20 +105,19 @@ fn steps(
     start: u64,
     k: Context,
     mem: &mut [u8],
-    pages: &[u32],
-    leaves: &[u64],
+    map: &[u64],
     budget: u64,
 ) -> Glided
     requires { (length mem.old ≤ 2 ^ 20) × Straight w.old × Knows k (setting_of w.old) }
-    ensures steps { Glides budget start x.old w.old mem.old (map_of pages.now leaves.now) result x.new
+    ensures steps { Glides budget start x.old w.old mem.old map.now result x.new
         w.new mem.new }
     ensures words { Straight w.new × (setting_of w.new ≡ setting_of w.old) }
 {
     let mut pc = start;
     let mut left = budget;
     while 0 < left {
-        let v = window::around(k.setting.control, pc, pages, leaves, mem);
-        let g = stretch(x, w, pc, v, k, mem, pages, leaves, left);
+        let v = window::around(k.setting.control, pc, map, mem);
+        let g = stretch(x, w, pc, v, k, mem, map, left);
         if g.left < left {
             pc = g.pc;
             left = g.left;
@@ -153,13 +148,12 @@ pub fn glide(
     source: Source,
     k: Context,
     mem: &mut [u8],
-    pages: &[u32],
-    leaves: &[u64],
+    map: &[u64],
     budget: u64,
 ) -> u64
     requires { (length mem.old ≤ 2 ^ 20) × Knows k (setting_of w.old) }
-    ensures steps { Midway (run_from source budget (hart x.old w.old) mem.old (map_of pages.now leaves.now)) budget result
-        source (hart x.new w.new) mem.new (map_of pages.now leaves.now) }
+    ensures steps { Midway (run_from source budget (hart x.old w.old) mem.old map.now) budget result
+        source (hart x.new w.new) mem.new map.now }
     ensures setting { setting_of w.new ≡ setting_of w.old }
 {
     sized(*w);
@@ -167,7 +161,7 @@ pub fn glide(
         return budget;
     }
     let pc = w[PC];
-    let g = steps(x, w, pc, k, mem, pages, leaves, budget);
+    let g = steps(x, w, pc, k, mem, map, budget);
     w[PC] = g.pc;
     g.left
 }

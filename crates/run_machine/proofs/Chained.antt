@@ -10,7 +10,6 @@ use Prim.Native.Nat.{ℕ, ◌+◌, ◌≤◌}
 use native.Mathlib.Omega.{arith}
 use borrow.Author.Tests.{le-ltb, eq-eqb, eqb-true, not-false}
 use lib.Dec.{eqb, ltb}
-use Rattle.address_page.specs.Lent.{Lent, lent_map_of}
 use Rattle.word.specs.Choice.{pick}
 use Rattle.word.proofs.Choices.{first, second}
 use Rattle.step_meaning.specs.declared.Source.{Source}
@@ -43,8 +42,8 @@ followed_by true c rest = c
 followed_by false c rest = counted c.answer.count rest
 
 -- a call c, and then a run of b steps from the hart and memory that it left
-abbrev pub then_call : Called → (b : ℕ) → (lent : Lent) → Called
-then_call c b lent = followed_by c.answer.trapped c (run_call_of b c.answer.hart c.memory lent)
+abbrev pub then_call : Called → (b : ℕ) → (map : List ℕ) → Called
+then_call c b map = followed_by c.answer.trapped c (run_call_of b c.answer.hart c.memory map)
 
 -- a budget that is not too large adds no refusal
 within_budget : (n budget : ℕ) → budget ≤ 1000000 → pick (eqb n 0) (pick (ltb 1000000 budget) 4 0) n ≡ n
@@ -60,58 +59,58 @@ taken_each true r s = refl
 taken_each false r s = refl
 
 -- refusals 1 to 3 do not apply to what a run leaves, where they did not apply before, whatever its first word came from
-pub left_accepted : (source : Source) (budget : ℕ) (h : Hart) (m : List ℕ) (lent : Lent) → refusal_of h m lent ≡ 0
-    → refusal_of (run_from source budget h m (lent_map_of lent)).hart (run_from source budget h m (lent_map_of lent)).memory lent ≡ 0
+pub left_accepted : (source : Source) (budget : ℕ) (h : Hart) (m map : List ℕ) → refusal_of h m map ≡ 0
+    → refusal_of (run_from source budget h m map).hart (run_from source budget h m map).memory map ≡ 0
 unfolding refusal_of
-left_accepted source budget h m lent e =
-    let (p, q, r) = no_refusal h m lent e in
-    rw (run_legal source budget h m (lent_map_of lent) (not-false (legal h) p), run_length source budget h m (lent_map_of lent), q, r)
+left_accepted source budget h m map e =
+    let (p, q, r) = no_refusal h m map e in
+    rw (run_legal source budget h m map (not-false (legal h) p), run_length source budget h m map, q, r)
 
 -- nor to what a step leaves, fetched or given
-pub step_accepted : (source : Source) (h : Hart) (m : List ℕ) (lent : Lent) → refusal_of h m lent ≡ 0
-    → refusal_of (step_from source h m (lent_map_of lent)).hart (step_from source h m (lent_map_of lent)).memory lent ≡ 0
+pub step_accepted : (source : Source) (h : Hart) (m map : List ℕ) → refusal_of h m map ≡ 0
+    → refusal_of (step_from source h m map).hart (step_from source h m map).memory map ≡ 0
 unfolding refusal_of
-step_accepted source h m lent e =
-    let (p, q, r) = no_refusal h m lent e in
-    rw (step_legal source h m (lent_map_of lent) (not-false (legal h) p), step_length source h m (lent_map_of lent), q, r)
+step_accepted source h m map e =
+    let (p, q, r) = no_refusal h m map e in
+    rw (step_legal source h m map (not-false (legal h) p), step_length source h m map, q, r)
 
-module _ (budget : ℕ) (h : Hart) (m : List ℕ) (lent : Lent) where
+module _ (budget : ℕ) (h : Hart) (m map : List ℕ) where
   -- refusals 1 to 3 decide, where the budget is not too large
-  by_refusal : budget ≤ 1000000 → run_call_of budget h m lent ≡ called_of (refusal_of h m lent) h m (run_of budget h m (lent_map_of lent))
+  by_refusal : budget ≤ 1000000 → run_call_of budget h m map ≡ called_of (refusal_of h m map) h m (run_of budget h m map)
   unfolding run_call_of run_refusal_of
-  by_refusal l = ap (λ (n : ℕ). called_of n h m (run_of budget h m (lent_map_of lent))) (within_budget (refusal_of h m lent) budget l)
+  by_refusal l = ap (λ (n : ℕ). called_of n h m (run_of budget h m map)) (within_budget (refusal_of h m map) budget l)
 
-  taken : budget ≤ 1000000 → refusal_of h m lent ≡ 0 → run_call_of budget h m lent ≡ taken_with (run_of budget h m (lent_map_of lent))
-  taken l e = by_refusal l ∙ first _ _ _ (eq-eqb (refusal_of h m lent) 0 e)
+  taken : budget ≤ 1000000 → refusal_of h m map ≡ 0 → run_call_of budget h m map ≡ taken_with (run_of budget h m map)
+  taken l e = by_refusal l ∙ first _ _ _ (eq-eqb (refusal_of h m map) 0 e)
 
-  refused : budget ≤ 1000000 → eqb (refusal_of h m lent) 0 ≡ false → run_call_of budget h m lent ≡ refused_with (refusal_of h m lent) h m
+  refused : budget ≤ 1000000 → eqb (refusal_of h m map) 0 ≡ false → run_call_of budget h m map ≡ refused_with (refusal_of h m map) h m
   refused l e = by_refusal l ∙ second _ _ _ e
 
 -- two calls, of budgets that a call takes, give the run of the sum: so a host may go on for as long as it likes
-pub calls_chain : (a b : ℕ) (h : Hart) (m : List ℕ) (lent : Lent) → a ≤ 1000000 → b ≤ 1000000 → refusal_of h m lent ≡ 0
-    → then_call (run_call_of a h m lent) b lent ≡ taken_with (run_of (a + b) h m (lent_map_of lent))
-calls_chain a b h m lent la lb e =
-    let r : Run = run_of a h m (lent_map_of lent) in
-    let s : Run = run_of b r.hart r.memory (lent_map_of lent) in
-    ap (λ (c : Called). then_call c b lent) (taken a h m lent la e)
-    ∙ ap (followed_by r.trapped (taken_with r)) (taken b r.hart r.memory lent lb (left_accepted Fetch a h m lent e))
+pub calls_chain : (a b : ℕ) (h : Hart) (m map : List ℕ) → a ≤ 1000000 → b ≤ 1000000 → refusal_of h m map ≡ 0
+    → then_call (run_call_of a h m map) b map ≡ taken_with (run_of (a + b) h m map)
+calls_chain a b h m map la lb e =
+    let r : Run = run_of a h m map in
+    let s : Run = run_of b r.hart r.memory map in
+    ap (λ (c : Called). then_call c b map) (taken a h m map la e)
+    ∙ ap (followed_by r.trapped (taken_with r)) (taken b r.hart r.memory map lb (left_accepted Fetch a h m map e))
     ∙ sym (taken_each r.trapped r s)
-    ∙ sym (ap taken_with (run_composes a b h m (lent_map_of lent)))
+    ∙ sym (ap taken_with (run_composes a b h m map))
 
 -- one call and two are the same, those that refusals 1 to 3 apply to included: then each gives the same refusal
-module _ (a b : ℕ) (h : Hart) (m : List ℕ) (lent : Lent) (l : a + b ≤ 1000000) where
-  chains_taken : refusal_of h m lent ≡ 0 → run_call_of (a + b) h m lent ≡ then_call (run_call_of a h m lent) b lent
-  chains_taken e = taken (a + b) h m lent l e ∙ sym (calls_chain a b h m lent (omega arith) (omega arith) e)
+module _ (a b : ℕ) (h : Hart) (m map : List ℕ) (l : a + b ≤ 1000000) where
+  chains_taken : refusal_of h m map ≡ 0 → run_call_of (a + b) h m map ≡ then_call (run_call_of a h m map) b map
+  chains_taken e = taken (a + b) h m map l e ∙ sym (calls_chain a b h m map (omega arith) (omega arith) e)
 
-  chains_refused : eqb (refusal_of h m lent) 0 ≡ false → run_call_of (a + b) h m lent ≡ then_call (run_call_of a h m lent) b lent
+  chains_refused : eqb (refusal_of h m map) 0 ≡ false → run_call_of (a + b) h m map ≡ then_call (run_call_of a h m map) b map
   chains_refused e =
-      refused (a + b) h m lent l e
-      ∙ ap (counted 0) (sym (refused b h m lent (omega arith) e))
-      ∙ ap (λ (c : Called). then_call c b lent) (sym (refused a h m lent (omega arith) e))
+      refused (a + b) h m map l e
+      ∙ ap (counted 0) (sym (refused b h m map (omega arith) e))
+      ∙ ap (λ (c : Called). then_call c b map) (sym (refused a h m map (omega arith) e))
 
-  pub call_chains : run_call_of (a + b) h m lent ≡ then_call (run_call_of a h m lent) b lent
-  call_chains = go (eqb (refusal_of h m lent) 0) refl
+  pub call_chains : run_call_of (a + b) h m map ≡ then_call (run_call_of a h m map) b map
+  call_chains = go (eqb (refusal_of h m map) 0) refl
     where
-      go : (z : Bool) → eqb (refusal_of h m lent) 0 ≡ z → run_call_of (a + b) h m lent ≡ then_call (run_call_of a h m lent) b lent
-      go true e = chains_taken (eqb-true (refusal_of h m lent) 0 e)
+      go : (z : Bool) → eqb (refusal_of h m map) 0 ≡ z → run_call_of (a + b) h m map ≡ then_call (run_call_of a h m map) b map
+      go true e = chains_taken (eqb-true (refusal_of h m map) 0 e)
       go false e = chains_refused e

@@ -3,8 +3,7 @@
 // Anything may be handed in: each call takes it, or answers with refusal 1 to 4 and changes nothing. The promises are stated in
 // crates/run_call/specs/Call.antt.
 ghost use Rattle.std.specs.Prelude.{◌≡◌};
-ghost use Rattle.address_page.specs.Lent.{Columns};
-ghost use Rattle.run_call.specs.Call.{step_from_call, call_of, step, step_given_word, run};
+ghost use Rattle.run_call.specs.Call.{step_from_call, step_call_of, step_word_call, run_call_of};
 
 use run_call::Answer;
 use run_engine::run;
@@ -12,14 +11,14 @@ use step_hart::Hart;
 use step_meaning::Source;
 
 // A step that fetches, or that takes a given word.
-fn stepped(h: Hart, source: Source, mem: &mut [u8], pages: &[u32], leaves: &[u64]) -> Answer
-    ensures answer { result ≡ (step_from_call source h mem.old (Columns pages.now leaves.now)).answer }
-    ensures memory { mem.new ≡ (step_from_call source h mem.old (Columns pages.now leaves.now)).memory }
+fn stepped(h: Hart, source: Source, mem: &mut [u8], map: &[u64]) -> Answer
+    ensures answer { result ≡ (step_from_call source h mem.old map.now).answer }
+    ensures memory { mem.new ≡ (step_from_call source h mem.old map.now).memory }
 {
     let w = h.words;
-    let n = run_call::refusal(&h.x, &w, mem, pages, leaves);
+    let n = run_call::refusal(&h.x, &w, mem, map);
     if n == 0 {
-        let r = h.step(source, mem, pages, leaves);
+        let r = h.step(source, mem, map);
         let g = r.hart;
         return Answer {
             refusal: 0,
@@ -33,30 +32,30 @@ fn stepped(h: Hart, source: Source, mem: &mut [u8], pages: &[u32], leaves: &[u64
 }
 
 // One step, which fetches at pc.
-pub fn step(h: Hart, mem: &mut [u8], pages: &[u32], leaves: &[u64]) -> Answer
-    ensures answer { result ≡ (call_of step h mem.old (Columns pages.now leaves.now)).answer }
-    ensures memory { mem.new ≡ (call_of step h mem.old (Columns pages.now leaves.now)).memory }
+pub fn step(h: Hart, mem: &mut [u8], map: &[u64]) -> Answer
+    ensures answer { result ≡ (step_call_of h mem.old map.now).answer }
+    ensures memory { mem.new ≡ (step_call_of h mem.old map.now).memory }
 {
-    stepped(h, Source::Fetch, mem, pages, leaves)
+    stepped(h, Source::Fetch, mem, map)
 }
 
 // One step with a given word, as if it had been fetched at pc.
-pub fn step_word(h: Hart, mem: &mut [u8], pages: &[u32], leaves: &[u64], word: u32) -> Answer
-    ensures answer { result ≡ (call_of (step_given_word word) h mem.old (Columns pages.now leaves.now)).answer }
-    ensures memory { mem.new ≡ (call_of (step_given_word word) h mem.old (Columns pages.now leaves.now)).memory }
+pub fn step_word(h: Hart, mem: &mut [u8], map: &[u64], word: u32) -> Answer
+    ensures answer { result ≡ (step_word_call word h mem.old map.now).answer }
+    ensures memory { mem.new ≡ (step_word_call word h mem.old map.now).memory }
 {
-    stepped(h, Source::Given(word), mem, pages, leaves)
+    stepped(h, Source::Given(word), mem, map)
 }
 
 // Steps up to and including the first that traps, or until the budget is spent.
-pub fn run(h: Hart, mem: &mut [u8], pages: &[u32], leaves: &[u64], budget: u64) -> Answer
-    ensures answer { result ≡ (call_of (run budget) h mem.old (Columns pages.now leaves.now)).answer }
-    ensures memory { mem.new ≡ (call_of (run budget) h mem.old (Columns pages.now leaves.now)).memory }
+pub fn run(h: Hart, mem: &mut [u8], map: &[u64], budget: u64) -> Answer
+    ensures answer { result ≡ (run_call_of budget h mem.old map.now).answer }
+    ensures memory { mem.new ≡ (run_call_of budget h mem.old map.now).memory }
 {
     let w = h.words;
-    let n = run_call::run_refusal(&h.x, &w, mem, pages, leaves, budget);
+    let n = run_call::run_refusal(&h.x, &w, mem, map, budget);
     if n == 0 {
-        let r = run::of_hart(h, Source::Fetch, mem, pages, leaves, budget);
+        let r = run::of_hart(h, Source::Fetch, mem, map, budget);
         let end = r.hart;
         return Answer {
             refusal: 0,

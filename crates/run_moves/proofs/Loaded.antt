@@ -6,7 +6,6 @@ use mathlib.Core.Path.{◌≡◌, refl, sym, ap, ◌∙◌}
 use Prim.Native.Nat.{ℕ}
 use native.Mathlib.Omega.{arith}
 use lib.ListN.{length}
-use Rattle.address_page.specs.Map.{Map}
 use Rattle.word.specs.Sum.{sum_of}
 use Rattle.word.specs.declared.field.Fields.{Fields}
 use Rattle.isa.specs.declared.Access.TheVariants.{Load}
@@ -62,7 +61,7 @@ known_loads k i f off a m v h w = rw h at w
 pub load_does : (t : Tried) (v : Value) (i : Instruction) (f : Fields) (off a next w pc : ℕ) (x x' m : List ℕ)
     → Loads v.known i f off a m v.value → v.known ≡ true → a ≡ sum_of (reg_of x f.rs1) off → next ≡ next_of pc
     → (t ≡ record { done = true; pc = next }) × (x' ≡ put_of f.rd v.value x)
-    → (ssp : ℕ) (s : Setting) (rest : List ℕ) (map : Map) → flat_of s.control ≡ true
+    → (ssp : ℕ) (s : Setting) (rest map : List ℕ) → flat_of s.control ≡ true
     → Does t.done (execute_of i w x pc ssp s m map) x rest m t.pc x' rest m
 load_does t v i f off a next w pc x x' m told known sum n done ssp s rest map flat =
     let k : Loads true i f off a m v.value = known_loads v.known i f off a m v.value known told in

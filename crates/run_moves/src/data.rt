@@ -3,8 +3,6 @@
 //
 // `flat` says beforehand that loads and stores are neither masked nor translated.
 ghost use Rattle.std.specs.Prelude.{true, List, ◌≡◌, ℕ, ◌^◌, ◌≤◌, length};
-ghost use Rattle.address_page.specs.Lent.{map_of};
-ghost use Rattle.address_page.specs.Map.{Map};
 ghost use Rattle.word.specs.Field.{fields_of};
 ghost use Rattle.word.specs.Immediate.{imm_i_of, imm_s_of};
 ghost use Rattle.isa.specs.declared.Access.TheVariants as access;
@@ -45,15 +43,14 @@ fn load_at(
     pc: u64,
     c: Control,
     mem: &[u8],
-    pages: &[u32],
-    leaves: &[u64],
+    map: &[u64],
 ) -> Tried
     requires { length mem.now ≤ 2 ^ 20 }
-    ensures { (rest : List ℕ) → Does result.done (at_of (access.Load n sign) (place_of c kind.Load n a (map_of pages.now leaves.now)
+    ensures { (rest : List ℕ) → Does result.done (at_of (access.Load n sign) (place_of c kind.Load n a map.now
         (length mem.now)) rd 0 0 0 (next_of pc) mem.now) x.old rest mem.now result.pc x.new rest
         mem.now }
 {
-    match steps::translate(c, Kind::Load, n, Virtual(a), pages, leaves, mem) {
+    match steps::translate(c, Kind::Load, n, Virtual(a), map, mem) {
         Place::At(q) => {
             let v = memory::extend(n, sign, memory::load(mem, q.index(), n));
             wrote(x, rd, v, sum::sum(pc, 4))
@@ -95,7 +92,7 @@ fn flat_row(f: Fields, a: u64, mem: &[u8]) -> Value
 // LOAD, where loads are neither masked nor translated.
 fn load_flat(w: u32, x: &mut [u64; 32], pc: u64, mem: &[u8]) -> Tried
     requires { length mem.now ≤ 2 ^ 20 }
-    ensures { (ssp : ℕ) (s : setting.Setting) (rest : List ℕ) (map : Map) → flat_of s.control ≡ true
+    ensures { (ssp : ℕ) (s : setting.Setting) (rest map : List ℕ) → flat_of s.control ≡ true
         → Does result.done (execute_of (decode_load_of (fields_of w) (imm_i_of w)) w x.old pc ssp s mem.now map) x.old rest
         mem.now result.pc x.new rest mem.now }
 {
@@ -107,18 +104,10 @@ fn load_flat(w: u32, x: &mut [u64; 32], pc: u64, mem: &[u8]) -> Tried
     undone(pc)
 }
 
-pub fn load(
-    w: u32,
-    x: &mut [u64; 32],
-    pc: u64,
-    k: Context,
-    mem: &[u8],
-    pages: &[u32],
-    leaves: &[u64],
-) -> Tried
+pub fn load(w: u32, x: &mut [u64; 32], pc: u64, k: Context, mem: &[u8], map: &[u64]) -> Tried
     requires { (length mem.now ≤ 2 ^ 20) × (k.flat ≡ flat_of k.setting.control) }
     ensures { (ssp : ℕ) (rest : List ℕ) → Does result.done (execute_of (decode_load_of (fields_of w) (imm_i_of w)) w x.old pc ssp k.setting
-        mem.now (map_of pages.now leaves.now)) x.old rest mem.now result.pc x.new rest mem.now }
+        mem.now map.now) x.old rest mem.now result.pc x.new rest mem.now }
 {
     if k.flat {
         return load_flat(w, x, pc, mem);
@@ -128,7 +117,7 @@ pub fn load(
         Instruction::Memory(access, rd, rs1, _, off) => match access {
             Access::Load(n, sign) => {
                 let a = sum::sum(reg(x, rs1), off);
-                load_at(n, sign, rd, a, x, pc, c, mem, pages, leaves)
+                load_at(n, sign, rd, a, x, pc, c, mem, map)
             }
             _ => undone(pc),
         },
@@ -145,15 +134,14 @@ fn store_at(
     flat: bool,
     c: Control,
     mem: &mut [u8],
-    pages: &[u32],
-    leaves: &[u64],
+    map: &[u64],
 ) -> Tried
     requires { (length mem.old ≤ 2 ^ 20) × (flat ≡ flat_of c) }
     ensures { (x rest : List ℕ) → Does result.done (at_of (access.Store n)
-        (place_of c kind.Store n a (map_of pages.now leaves.now) (length mem.old)) 0 0 v 0 (next_of pc) mem.old) x rest mem.old
+        (place_of c kind.Store n a map.now (length mem.old)) 0 0 v 0 (next_of pc) mem.old) x rest mem.old
         result.pc x rest mem.new }
 {
-    match steps::quick_data(flat, c, Kind::Store, n, Virtual(a), pages, leaves, mem) {
+    match steps::quick_data(flat, c, Kind::Store, n, Virtual(a), map, mem) {
         Place::At(q) => {
             memory::store(mem, q.index(), n, v);
             Tried {
@@ -165,18 +153,10 @@ fn store_at(
     }
 }
 
-pub fn store(
-    w: u32,
-    x: &[u64; 32],
-    pc: u64,
-    k: Context,
-    mem: &mut [u8],
-    pages: &[u32],
-    leaves: &[u64],
-) -> Tried
+pub fn store(w: u32, x: &[u64; 32], pc: u64, k: Context, mem: &mut [u8], map: &[u64]) -> Tried
     requires { (length mem.old ≤ 2 ^ 20) × (k.flat ≡ flat_of k.setting.control) }
     ensures { (ssp : ℕ) (rest : List ℕ) → Does result.done (execute_of (decode_store_of (fields_of w) (imm_s_of w)) w x.now pc ssp k.setting
-        mem.old (map_of pages.now leaves.now)) x.now rest mem.old result.pc x.now rest mem.new }
+        mem.old map.now) x.now rest mem.old result.pc x.now rest mem.new }
 {
     let flat = k.flat;
     let c = k.setting.control;
@@ -184,7 +164,7 @@ pub fn store(
         Instruction::Memory(access, _, rs1, rs2, off) => match access {
             Access::Store(n) => {
                 let a = sum::sum(reg(x, rs1), off);
-                store_at(n, a, reg(x, rs2), pc, flat, c, mem, pages, leaves)
+                store_at(n, a, reg(x, rs2), pc, flat, c, mem, map)
             }
             _ => undone(pc),
         },
@@ -193,30 +173,14 @@ pub fn store(
 }
 
 // A push of v: to ssp - 8, which is then ssp.
-fn push(
-    v: u64,
-    pc: u64,
-    rest: &mut [u64; COUNT],
-    c: Control,
-    mem: &mut [u8],
-    pages: &[u32],
-    leaves: &[u64],
-) -> Tried
+fn push(v: u64, pc: u64, rest: &mut [u64; COUNT], c: Control, mem: &mut [u8], map: &[u64]) -> Tried
     requires { length mem.old ≤ 2 ^ 20 }
     ensures { (x : List ℕ) → Does result.done (at_of access.Push (place_of c kind.Push Double (push_of (SSP of (λ x. x.now) rest.entry))
-        (map_of pages.now leaves.now) (length mem.old)) 0 0 v (SSP of (λ x. x.now) rest.entry) (next_of pc) mem.old) x rest.old
+        map.now (length mem.old)) 0 0 v (SSP of (λ x. x.now) rest.entry) (next_of pc) mem.old) x rest.old
         mem.old result.pc x rest.new mem.new }
 {
     let top = sum::difference(rest[SSP], 8);
-    match steps::translate(
-        c,
-        Kind::Push,
-        Width::Double,
-        Virtual(top),
-        pages,
-        leaves,
-        mem,
-    ) {
+    match steps::translate(c, Kind::Push, Width::Double, Virtual(top), map, mem) {
         Place::At(q) => {
             memory::store(mem, q.index(), Width::Double, v);
             rest[SSP] = top;
@@ -230,30 +194,14 @@ fn push(
 }
 
 // A pop-check of v: at ssp, which goes up by 8 where v is found.
-fn pop(
-    v: u64,
-    pc: u64,
-    rest: &mut [u64; COUNT],
-    c: Control,
-    mem: &[u8],
-    pages: &[u32],
-    leaves: &[u64],
-) -> Tried
+fn pop(v: u64, pc: u64, rest: &mut [u64; COUNT], c: Control, mem: &[u8], map: &[u64]) -> Tried
     requires { length mem.now ≤ 2 ^ 20 }
-    ensures { (x : List ℕ) → Does result.done (at_of access.Pop (place_of c kind.Pop Double (SSP of (λ x. x.now) rest.entry) (map_of pages.now leaves.now)
+    ensures { (x : List ℕ) → Does result.done (at_of access.Pop (place_of c kind.Pop Double (SSP of (λ x. x.now) rest.entry) map.now
         (length mem.now)) 0 v 0 (SSP of (λ x. x.now) rest.entry) (next_of pc) mem.now) x rest.old mem.now
         result.pc x rest.new mem.now }
 {
     let ssp = rest[SSP];
-    match steps::translate(
-        c,
-        Kind::Pop,
-        Width::Double,
-        Virtual(ssp),
-        pages,
-        leaves,
-        mem,
-    ) {
+    match steps::translate(c, Kind::Pop, Width::Double, Virtual(ssp), map, mem) {
         Place::At(q) => {
             if memory::load(mem, q.index(), Width::Double) == v {
                 rest[SSP] = sum::sum(ssp, 8);
@@ -277,21 +225,20 @@ pub fn shadow(
     pc: u64,
     k: Context,
     mem: &mut [u8],
-    pages: &[u32],
-    leaves: &[u64],
+    map: &[u64],
 ) -> Tried
     requires { length mem.old ≤ 2 ^ 20 }
     ensures { Does result.done (execute_of (system_of w (fields_of w)) w x.entry.now pc (SSP of (λ x. x.now) rest.entry) k.setting
-        mem.old (map_of pages.now leaves.now)) x.entry.now rest.old mem.old result.pc x.entry.now rest.new
+        mem.old map.now) x.entry.now rest.old mem.old result.pc x.entry.now rest.new
         mem.new }
 {
     let c = k.setting.control;
     if k.setting.shadow {
         return match w {
-            0xce104073 => push(reg(x, 1), pc, rest, c, mem, pages, leaves),
-            0xce504073 => push(reg(x, 5), pc, rest, c, mem, pages, leaves),
-            0xcdc0c073 => pop(reg(x, 1), pc, rest, c, mem, pages, leaves),
-            0xcdc2c073 => pop(reg(x, 5), pc, rest, c, mem, pages, leaves),
+            0xce104073 => push(reg(x, 1), pc, rest, c, mem, map),
+            0xce504073 => push(reg(x, 5), pc, rest, c, mem, map),
+            0xcdc0c073 => pop(reg(x, 1), pc, rest, c, mem, map),
+            0xcdc2c073 => pop(reg(x, 5), pc, rest, c, mem, map),
             _ => undone(pc),
         };
     }

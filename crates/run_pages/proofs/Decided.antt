@@ -2,11 +2,11 @@
 -- place and its frame lies in memory whole, every aligned access of that kind to the page has its place at the same distance.
 -- Assumes nothing.
 use mathlib.Core.Bool.{Bool, true, false}
+use mathlib.Core.List.{List}
 use mathlib.Core.Path.{◌≡◌, refl, sym, ◌∙◌, ap, subst}
 use Prim.Native.Nat.{ℕ, ◌+◌, ◌-◌, ◌%◌, ◌<◌, ◌≤◌}
 use native.Mathlib.Omega.{arith}
 use borrow.Author.Tests.{eq-eqb}
-use Rattle.address_page.specs.Map.{Map}
 use Rattle.word.specs.Choice.{pick}
 use Rattle.word.proofs.Choices.{first}
 use Rattle.isa.specs.Size.{size_of}
@@ -49,7 +49,7 @@ aligned_there Half t d z e = eq-eqb ((t + d) % 2) 0 (omega arith)
 aligned_there Word t d z e = eq-eqb ((t + d) % 4) 0 (omega arith)
 aligned_there Double t d z e = eq-eqb ((t + d) % 8) 0 (omega arith)
 
-module _ (c : Control) (k : Kind) (low : ℕ) (map : Map) (len : ℕ) (q : Physical)
+module _ (c : Control) (k : Kind) (low : ℕ) (map : List ℕ) (len : ℕ) (q : Physical)
     (at : place_of c k Double low map len ≡ At q) (start : low % 4096 ≡ 0) (frame : q.0 - base + 4096 ≤ len) where
   abbrev m : Mode
   m = effective_mode_of c k

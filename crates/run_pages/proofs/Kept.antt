@@ -9,8 +9,6 @@ use borrow.Author.Tests.{eqb-true, eqb-false}
 use lib.Dec.{eqb}
 use lib.ListN.{get_or, length, set, length-set, replicate, get_or-replicate}
 use lib.Seq.{get_or-set_same, get_or-set_other}
-use Rattle.word.specs.Sum.{sum_of}
-use Rattle.address_page.specs.Map.{Map}
 use Rattle.isa.specs.Size.{size_of}
 use Rattle.isa.specs.declared.Kind.{Kind}
 use Rattle.isa.specs.declared.Width.{Width}
@@ -30,12 +28,12 @@ none_on Half a e = omega arith
 none_on Word a e = omega arith
 none_on Double a e = omega arith
 
-pub empty : (c : Control) (map : Map) (len : ℕ) → Remembers (replicate 512 8) c map len
+pub empty : (c : Control) (map : List ℕ) (len : ℕ) → Remembers (replicate 512 8) c map len
 empty c map len j l w a h e =
     let b : j * 2 < 512 = omega arith in
     absurd (none_on w a (sym (get_or-replicate 512 (j * 2) 8 0 b) ∙ e))
 
-module _ (ps : List ℕ) (c : Control) (map : Map) (len : ℕ) (j low at : ℕ) (long : length ps ≡ 512) (below : j < 256) where
+module _ (ps : List ℕ) (c : Control) (map : List ℕ) (len : ℕ) (j low at : ℕ) (long : length ps ≡ 512) (below : j < 256) where
   abbrev then : List ℕ
   then = set (set ps (j * 2) low) (j * 2 + 1) at
 
@@ -77,7 +75,7 @@ module _ (ps : List ℕ) (c : Control) (map : Map) (len : ℕ) (j low at : ℕ) 
       let frame : q.0 - base + 4096 ≤ len = rw (← i) fits in
       stored old (rw (e, i) (decided c k low map len q there start frame))
 
-module _ (c : Control) (k : Kind) (w : Width) (a : ℕ) (map : Map) (len : ℕ) where
+module _ (c : Control) (k : Kind) (w : Width) (a : ℕ) (map : List ℕ) (len : ℕ) where
   -- a place by the index of its byte
   pub at_index : (q : Physical) (n : ℕ) → place_of c k w a map len ≡ At q → n ≡ q.0 - base → place_of c k w a map len ≡ At (record { 0 = base + n })
   at_index q n there i =
@@ -85,14 +83,13 @@ module _ (c : Control) (k : Kind) (w : Width) (a : ℕ) (map : Map) (len : ℕ) 
       let e : q.0 ≡ base + n = omega (arith, from, i) in
       there ∙ ap (λ (p : ℕ). At (record { 0 = p })) e
 
-  -- what a table that remembers has of an address's page, whose index a sum that may wrap has too
-  pub recalled : (ps : List ℕ) (j at : ℕ) → Remembers ps c map len → len ≤ 2 ^ 20 → j < 256 → kind_at (j / 64) ≡ k → a < 2 ^ 64
-      → get_or ps (j * 2) 0 ≡ a - a % 4096 + a % size_of w → at ≡ sum_of (get_or ps (j * 2 + 1) 0) (a % 4096)
-      → place_of c k w a map len ≡ At (record { 0 = base + at })
-  recalled ps j at old small l e h o s =
-      let (fits, there) = old j l w a h o in
-      let n : get_or ps (j * 2 + 1) 0 + a % 4096 ≡ at = omega (arith, fits, small, s) in
-      rw (← e) there ∙ ap (λ (p : ℕ). At (record { 0 = base + p })) n
+  -- what a table that remembers has of an address's page
+  pub recalled : (ps : List ℕ) (j n : ℕ) → Remembers ps c map len → j < 256 → kind_at (j / 64) ≡ k → a < 2 ^ 64 → n ≡ size_of w
+      → get_or ps (j * 2) 0 ≡ a - a % 4096 + a % n
+      → (get_or ps (j * 2 + 1) 0 + a % 4096 ≤ len) × (place_of c k w a map len ≡ At (record { 0 = base + (get_or ps (j * 2 + 1) 0 + a % 4096) }))
+  recalled ps j n old l e h s o =
+      let (fits, there) = old j l w a h (rw (← s) o) in
+      (omega (arith, fits), rw (← e) there)
 
 -- the pairs of a group are of its kind
 pub in_group : (group i : ℕ) (k : Kind) → group < 4 → i < 64 → kind_at group ≡ k → (group * 64 + i < 256) × (kind_at ((group * 64 + i) / 64) ≡ k)

@@ -3,10 +3,7 @@
 //
 // A pair of words for a page: its first address, and the index of its first byte. The first 64 pairs are for loads, then stores, pushes and
 // pop-checks, 64 each, by the page's number. An empty pair has 8 for an address, which is no address of a page, nor near one as the test below asks.
-ghost use Rattle.std.specs.Prelude.{true, false, ◌≡◌, ◌+◌, ◌-◌, ◌*◌, ◌/◌, ◌%◌, ◌^◌, ◌<◌, ◌≤◌, get_or, length};
-ghost use Rattle.word.specs.Sum.{sum_of};
-ghost use Rattle.isa.specs.Size.{size_of};
-ghost use Rattle.address_page.specs.Lent.{map_of};
+ghost use Rattle.std.specs.Prelude.{true, false, ◌≡◌, ◌+◌, ◌/◌, ◌^◌, ◌<◌, ◌≤◌, length};
 ghost use Rattle.address_place.specs.Place.{base, place_of};
 ghost use Rattle.address_place.specs.declared.Place.TheVariants.{At};
 ghost use Rattle.run_pages.specs.Pages.{kind_at, Remembers};
@@ -15,7 +12,6 @@ use address::Virtual;
 use address::control::Control;
 use address_place::{Place, steps};
 use isa::{Kind, Width, size};
-use word::sum;
 
 // Two words for each of the 4 times 64 pages.
 pub const COUNT: usize = 512;
@@ -42,22 +38,13 @@ fn nowhere() -> Sought
 }
 
 // The page of address a, remembered in the pair at j, if an access to its first address has a place and its frame lies in memory whole.
-fn remember(
-    ps: &mut [u64; COUNT],
-    j: usize,
-    k: Kind,
-    a: u64,
-    c: Control,
-    mem: &[u8],
-    pages: &[u32],
-    leaves: &[u64],
-)
+fn remember(ps: &mut [u64; COUNT], j: usize, k: Kind, a: u64, c: Control, mem: &[u8], map: &[u64])
     requires { (length mem.now ≤ 2 ^ 20) × (j < 256) × (kind_at (j / 64) ≡ k)
-        × Remembers ps.old c (map_of pages.now leaves.now) (length mem.now) }
-    ensures { Remembers ps.new c (map_of pages.now leaves.now) (length mem.now) }
+        × Remembers ps.old c map.now (length mem.now) }
+    ensures { Remembers ps.new c map.now (length mem.now) }
 {
     let low = a - a % 4096;
-    match steps::translate(c, k, Width::Double, Virtual(low), pages, leaves, mem) {
+    match steps::translate(c, k, Width::Double, Virtual(low), map, mem) {
         Place::At(q) => {
             let at = q.index();
             if at + 4096 <= mem.len() {
@@ -71,23 +58,33 @@ fn remember(
     }
 }
 
-// The place of an access to the page that the pair at j remembers. One test asks for the page and for alignment.
-fn recall(ps: &[u64; COUNT], j: usize, n: Width, a: u64) -> Sought
-    requires { j < 256 }
-    ensures { result.found ≡ true → (get_or ps.now (j * 2) 0 ≡ a - a % 4096 + a % size_of n)
-        × (result.at ≡ sum_of (get_or ps.now (j * 2 + 1) 0) (a % 4096)) }
+// The place by the nine steps; the page is remembered for the next access.
+fn find(
+    ps: &mut [u64; COUNT],
+    j: usize,
+    k: Kind,
+    n: Width,
+    a: u64,
+    c: Control,
+    mem: &[u8],
+    map: &[u64],
+) -> Sought
+    requires { (length mem.now ≤ 2 ^ 20) × (j < 256) × (kind_at (j / 64) ≡ k)
+        × Remembers ps.old c map.now (length mem.now) }
+    ensures place { result.found ≡ true → place_of c k n a map.now (length mem.now) ≡ At (record { 0 = base + result.at }) }
+    ensures pages { Remembers ps.new c map.now (length mem.now) }
 {
-    if ps[j * 2] == a - a % 4096 + a % size::bytes(n) {
-        return Sought {
+    remember(ps, j, k, a, c, mem, map);
+    match steps::translate(c, k, n, Virtual(a), map, mem) {
+        Place::At(q) => Sought {
             found: true,
-            at: sum::sum(ps[j * 2 + 1], a % 4096) as usize,
-        };
+            at: q.index(),
+        },
+        Place::Fault(_, _) => nowhere(),
     }
-    nowhere()
 }
 
-// The place of an access of kind k, whose pairs are those of number `group`. Where its page is not remembered it is now, if it can be; the second
-// look stands in for the nine steps, and finds nothing where they give a fault.
+// The place of an access of kind k, whose pairs are those of number `group`. One test asks for the page and for alignment.
 pub fn seek(
     ps: &mut [u64; COUNT],
     group: u64,
@@ -96,18 +93,18 @@ pub fn seek(
     a: u64,
     c: Control,
     mem: &[u8],
-    pages: &[u32],
-    leaves: &[u64],
+    map: &[u64],
 ) -> Sought
-    requires { (length mem.now ≤ 2 ^ 20) × (group < 4) × (kind_at group ≡ k) × Remembers ps.old c (map_of pages.now leaves.now) (length mem.now) }
-    ensures place { result.found ≡ true → place_of c k n a (map_of pages.now leaves.now) (length mem.now) ≡ At (record { 0 = base + result.at }) }
-    ensures pages { Remembers ps.new c (map_of pages.now leaves.now) (length mem.now) }
+    requires { (length mem.now ≤ 2 ^ 20) × (group < 4) × (kind_at group ≡ k) × Remembers ps.old c map.now (length mem.now) }
+    ensures place { result.found ≡ true → place_of c k n a map.now (length mem.now) ≡ At (record { 0 = base + result.at }) }
+    ensures pages { Remembers ps.new c map.now (length mem.now) }
 {
     let j = (group * 64 + a / 4096 % 64) as usize;
-    let s = recall(ps, j, n, a);
-    if s.found {
-        return s;
+    if ps[j * 2] == a - a % 4096 + a % size::bytes(n) {
+        return Sought {
+            found: true,
+            at: (ps[j * 2 + 1] + a % 4096) as usize,
+        };
     }
-    remember(ps, j, k, a, c, mem, pages, leaves);
-    recall(ps, j, n, a)
+    find(ps, j, k, n, a, c, mem, map)
 }

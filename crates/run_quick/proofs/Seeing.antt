@@ -5,7 +5,6 @@ use mathlib.Core.Path.{◌≡◌}
 use Prim.Native.Nat.{ℕ, ◌+◌, ◌-◌, ◌%◌, ◌^◌, ◌<◌}
 use native.Mathlib.Omega.{arith}
 use lib.ListN.{length}
-use Rattle.address_page.specs.Map.{Map}
 use Rattle.word.specs.Sum.{difference_of}
 use Rattle.isa.specs.declared.Width.TheVariants.{Word}
 use Rattle.memory.specs.Bytes.{load_of}
@@ -20,7 +19,7 @@ use Rattle.step_meaning.specs.declared.Fetched.TheVariants as fetched
 use Rattle.step_meaning.specs.declared.Source.TheVariants.{Fetch}
 
 pub seen_word : (v : Window) (pc d w : ℕ) → d ≡ difference_of pc v.low → d < v.span → pc % 4 ≡ 0 → pc < 2 ^ 64
-    → (c : Control) (map : Map) (m : List ℕ) → Shows v c map (length m) → w ≡ load_of m (v.at + d) 4
+    → (c : Control) (map m : List ℕ) → Shows v c map (length m) → w ≡ load_of m (v.at + d) 4
     → fetched_of Fetch c pc m map ≡ fetched.Word w
 unfolding fetched_of
 seen_word v pc d w e l z h c map m shows r =

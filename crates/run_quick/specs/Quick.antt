@@ -1,6 +1,5 @@
 -- What the quick way does with an instruction that touches the registers and pc alone, and what it sees of memory. Rule 10.10 of docs/HART.md.
 use Rattle.std.specs.Prelude.{Bool, true, List, ◌≡◌, ℕ}
-use Rattle.address_page.specs.Map.{Map}
 use Rattle.isa.specs.declared.Instruction.{Instruction}
 use Rattle.csr_setting.specs.declared.Setting.{Setting}
 use Rattle.step_meaning.specs.Instruction.{execute_of}
@@ -13,7 +12,7 @@ use Rattle.run_quick.specs.declared.opcodes.Seen.{Seen}
 -- an instruction that touches the registers and pc alone, whatever the rest of the hart and memory are; pad is the pad enable
 abbrev pub Computes : Instruction → (w : ℕ) → (x : List ℕ) → (pc : ℕ) → (pad : Bool) → Tried → (x' : List ℕ) → Type 0
 Computes i w x pc pad t x' =
-    (ssp : ℕ) (s : Setting) (rest m : List ℕ) (map : Map) → s.pad ≡ pad
+    (ssp : ℕ) (s : Setting) (rest m map : List ℕ) → s.pad ≡ pad
     → Does t.done (execute_of i w x pc ssp s m map) x rest m t.pc x' rest m
 
 -- a word that was seen is the one that a fetch gives

@@ -1,7 +1,5 @@
 // The quick way's two ends: the fetch, and the instruction of a word by its major opcode.
 ghost use Rattle.std.specs.Prelude.{List, ◌≡◌, ℕ, ◌+◌, ◌-◌, ◌^◌, ◌≤◌, length};
-ghost use Rattle.address_page.specs.Lent.{map_of};
-ghost use Rattle.address_page.specs.Map.{Map};
 ghost use Rattle.address.specs.Control.{flat_of};
 ghost use Rattle.address.specs.declared.control.Control.{Control};
 ghost use Rattle.decode.specs.Decode.{decode_of};
@@ -32,7 +30,7 @@ pub struct Seen {
 // slow path fetches there.
 pub fn fetch(v: Window, pc: u64, mem: &[u8]) -> Seen
     requires { (length mem.now ≤ 2 ^ 20) × (v.at + v.span ≤ length mem.now - 3) }
-    ensures { (c : Control) (map : Map) → Shows v c map (length mem.now)
+    ensures { (c : Control) (map : List ℕ) → Shows v c map (length mem.now)
         → Sees result (fetched_of Fetch c pc mem.now map) }
 {
     let d = sum::difference(pc, v.low);
@@ -58,12 +56,11 @@ pub fn word(
     pc: u64,
     k: Context,
     mem: &mut [u8],
-    pages: &[u32],
-    leaves: &[u64],
+    map: &[u64],
 ) -> Tried
     requires { (length mem.old ≤ 2 ^ 20) × (k.flat ≡ flat_of k.setting.control) }
     ensures { Does result.done (execute_of (decode_of w) w x.entry.now pc (SSP of (λ x. x.now) rest.entry) k.setting mem.old
-        (map_of pages.now leaves.now)) x.entry.now rest.old mem.old result.pc x.exit.now rest.new mem.new }
+        map.now) x.entry.now rest.old mem.old result.pc x.exit.now rest.new mem.new }
 {
     match w % 128 {
         0b0110111 => compute::lui(w, x, pc),
@@ -71,13 +68,13 @@ pub fn word(
         0b1101111 => compute::jal(w, x, pc),
         0b1100111 => compute::jalr(w, x, pc, k.setting.pad),
         0b1100011 => compute::branch(w, x, pc),
-        0b0000011 => data::load(w, x, pc, k, mem, pages, leaves),
-        0b0100011 => data::store(w, x, pc, k, mem, pages, leaves),
+        0b0000011 => data::load(w, x, pc, k, mem, map),
+        0b0100011 => data::store(w, x, pc, k, mem, map),
         0b0010011 => compute::op_imm(w, x, pc),
         0b0011011 => compute::op_imm_32(w, x, pc),
         0b0110011 => compute::op(w, x, pc),
         0b0111011 => compute::op_32(w, x, pc),
-        0b1110011 => data::shadow(w, x, rest, pc, k, mem, pages, leaves),
+        0b1110011 => data::shadow(w, x, rest, pc, k, mem, map),
         _ => run_moves::undone(pc),
     }
 }

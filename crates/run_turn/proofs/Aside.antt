@@ -7,7 +7,6 @@ use Prim.Native.Nat.{ℕ, ◌≤◌}
 use native.Mathlib.Omega.{arith}
 use lib.ListN.{length, length-set}
 use lib.Seq.{get_or-set_same, get_or-set_other, set-get_or, set-set, set_comm}
-use Rattle.address_page.specs.Map.{Map}
 use Rattle.word.specs.Choice.{pick}
 use Rattle.csr.specs.declared.Csr.{Csr}
 use Rattle.step_meaning.specs.Plan.{effect_of}
@@ -22,7 +21,7 @@ use Rattle.run_turn.specs.Glide.{hart_at, Straight}
 
 module _ (pc : ℕ) (x w : List ℕ) where
   -- the effect of the step at pc
-  pub planned_at : length w ≡ COUNT → (source : Source) (m : List ℕ) (map : Map)
+  pub planned_at : length w ≡ COUNT → (source : Source) (m map : List ℕ)
       → plan_of source (hart_at pc x w) m map ≡ effect_of source x pc (expected w) (SSP of w) (setting_of w) m map
   planned_at size source m map =
       rw (

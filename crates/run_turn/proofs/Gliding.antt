@@ -6,7 +6,6 @@ use mathlib.Core.Path.{◌≡◌, refl, sym, ap, subst, ◌∙◌}
 use Prim.Native.Nat.{ℕ}
 use native.Mathlib.Omega.{arith}
 use lib.Seq.{set-set}
-use Rattle.address_page.specs.Map.{Map}
 use Rattle.word.specs.Choice.{pick}
 use Rattle.decode.specs.Decode.{decode_of}
 use Rattle.csr.specs.declared.Csr.{Csr}
@@ -94,7 +93,7 @@ module _ (pc : ℕ) (x w m : List ℕ) (st : Straight w) where
   handled (Privileged k) next x' w' a = carried_out k next x' w' a
   handled (Trap cause tval) next x' w' a = absurd a
 
-  module _ (map : Map) (word : ℕ) (at : Fetches word pc w m map) where
+  module _ (map : List ℕ) (word : ℕ) (at : Fetches word pc w m map) where
     -- the effect of the step is that of the word's instruction
     abbrev effect : Effect
     effect = execute_of (decode_of word) word x pc (SSP of w) (setting_of w) m map

@@ -3,7 +3,6 @@
 --
 -- Below, x are the registers, w the hart's other words, m memory; a name with ' is what it is afterwards.
 use Rattle.std.specs.Prelude.{Bool, true, false, List, ◌≡◌, ℕ, length}
-use Rattle.address_page.specs.Map.{Map}
 use Rattle.step_meaning.specs.declared.Source.TheVariants.{Fetch}
 use Rattle.step_meaning.specs.Plan.{fetched_of}
 use Rattle.step_meaning.specs.declared.Fetched.TheVariants as fetched
@@ -24,11 +23,11 @@ abbrev pub Straight : (w : List ℕ) → Type 0
 Straight w = (length w ≡ COUNT) × (ELP of w ≡ 0)
 
 -- word stands at pc
-abbrev pub Fetches : (word pc : ℕ) → (w m : List ℕ) (map : Map) → Type 0
+abbrev pub Fetches : (word pc : ℕ) → (w m map : List ℕ) → Type 0
 Fetches word pc w m map = fetched_of Fetch (setting_of w).control pc m map ≡ fetched.Word word
 
 -- a step that fetches was taken, without a trap, and the mode and CSRs say what they said; or nothing changed
-abbrev pub Turned : (done : Bool) → (pc : ℕ) → (x w m : List ℕ) (map : Map) → (pc' : ℕ) → (x' w' m' : List ℕ) → Type 0
+abbrev pub Turned : (done : Bool) → (pc : ℕ) → (x w m map : List ℕ) → (pc' : ℕ) → (x' w' m' : List ℕ) → Type 0
 Turned true pc x w m map pc' x' w' m' =
     ((step_from Fetch (hart_at pc x w) m map).trapped ≡ false)
     × ((step_from Fetch (hart_at pc x w) m map).hart ≡ hart_at pc' x' w')
@@ -38,6 +37,6 @@ Turned true pc x w m map pc' x' w' m' =
 Turned false pc x w m map pc' x' w' m' = (x' ≡ x) × (w' ≡ w) × (m' ≡ m)
 
 -- some of a run's steps were taken, and none of them trapped
-abbrev pub Glides : (budget pc : ℕ) → (x w m : List ℕ) (map : Map) → Glided → (x' w' m' : List ℕ) → Type 0
+abbrev pub Glides : (budget pc : ℕ) → (x w m map : List ℕ) → Glided → (x' w' m' : List ℕ) → Type 0
 Glides budget pc x w m map g x' w' m' =
     Midway (run_from Fetch budget (hart_at pc x w) m map) budget g.left Fetch (hart_at g.pc x' w') m' map

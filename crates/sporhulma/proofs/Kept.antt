@@ -6,16 +6,15 @@ use mathlib.Core.List.{List, [], ◌∷◌}
 use mathlib.Core.Path.{◌≡◌, refl}
 use Prim.Native.Nat.{ℕ}
 use lib.Dec.{eqb}
-use Rattle.address_page.specs.Lent.{Lent, lent_map_of}
 use Rattle.step_meaning.specs.declared.Source.TheVariants.{Fetch, Given}
 use Rattle.step_hart.specs.Hart.{hart}
 use Rattle.step_hart.specs.Run.{Run, once, run_of}
 use Rattle.step_hart.specs.Step.{step_from}
-use Rattle.run_call.specs.Call.{called_of, refusal_of, run_refusal_of, step_from_call, run_call_of, step, step_given_word, run}
+use Rattle.run_call.specs.Call.{called_of, refusal_of, run_refusal_of, step_from_call, run_call_of}
 use Rattle.hex.specs.Load.{load_hex_of}
 use Rattle.hex.proofs.Kept.{refused_changes_nothing}
 use Rattle.sporhulma.specs.Load.{load_left}
-use Rattle.sporhulma.specs.Boundary.{Left, left_by, left_of}
+use Rattle.sporhulma.specs.Boundary.{Left, left_by, step_left_of, step_word_left, run_left}
 
 -- what a call leaves where it changes nothing
 abbrev pub Kept : (x rest m : List ℕ) → Left → Type 0
@@ -32,19 +31,19 @@ module _ (x rest m : List ℕ) (r : Run) where
   refusal_keeps : (n : ℕ) → ((left_by (called_of n (hart x rest) m r)).result ≡ 0 → ⊥) → Kept x rest m (left_by (called_of n (hart x rest) m r))
   refusal_keeps n = by_number n (eqb n 0) refl
 
-module _ (x rest m : List ℕ) (lent : Lent) where
-  pub step_keeps : ((left_of step x rest m lent).result ≡ 0 → ⊥) → Kept x rest m (left_of step x rest m lent)
-  unfolding left_of step_from_call
-  step_keeps = refusal_keeps x rest m (once (step_from Fetch (hart x rest) m (lent_map_of lent))) (refusal_of (hart x rest) m lent)
+module _ (x rest m map : List ℕ) where
+  pub step_keeps : ((step_left_of x rest m map).result ≡ 0 → ⊥) → Kept x rest m (step_left_of x rest m map)
+  unfolding step_left_of step_from_call
+  step_keeps = refusal_keeps x rest m (once (step_from Fetch (hart x rest) m map)) (refusal_of (hart x rest) m map)
 
-  pub step_word_keeps : (word : ℕ) → ((left_of (step_given_word word) x rest m lent).result ≡ 0 → ⊥) → Kept x rest m (left_of (step_given_word word) x rest m lent)
-  unfolding left_of step_from_call
+  pub step_word_keeps : (word : ℕ) → ((step_word_left word x rest m map).result ≡ 0 → ⊥) → Kept x rest m (step_word_left word x rest m map)
+  unfolding step_word_left step_from_call
   step_word_keeps word =
-      refusal_keeps x rest m (once (step_from (Given word) (hart x rest) m (lent_map_of lent))) (refusal_of (hart x rest) m lent)
+      refusal_keeps x rest m (once (step_from (Given word) (hart x rest) m map)) (refusal_of (hart x rest) m map)
 
-  pub run_keeps : (budget : ℕ) → ((left_of (run budget) x rest m lent).result ≡ 0 → ⊥) → Kept x rest m (left_of (run budget) x rest m lent)
-  unfolding left_of run_call_of
-  run_keeps budget = refusal_keeps x rest m (run_of budget (hart x rest) m (lent_map_of lent)) (run_refusal_of budget (hart x rest) m lent)
+  pub run_keeps : (budget : ℕ) → ((run_left budget x rest m map).result ≡ 0 → ⊥) → Kept x rest m (run_left budget x rest m map)
+  unfolding run_left run_call_of
+  run_keeps budget = refusal_keeps x rest m (run_of budget (hart x rest) m map) (run_refusal_of budget (hart x rest) m map)
 
 -- a refused load changes no byte, and hands back no start address
 pub load_keeps : (text mem : List ℕ) → ((load_left text mem).result ≡ 0 → ⊥)

@@ -6,7 +6,6 @@ use mathlib.Core.Path.{◌≡◌, refl, sym, ap}
 use Prim.Native.Nat.{ℕ}
 use borrow.Author.Tests.{eqb-true}
 use lib.Dec.{eqb}
-use Rattle.address_page.specs.Lent.{Lent, lent_map_of}
 use Rattle.word.specs.Choice.{pick}
 use Rattle.step_meaning.specs.declared.Source.{Source}
 use Rattle.step_meaning.specs.declared.Source.TheVariants.{Fetch, Given}
@@ -14,8 +13,8 @@ use Rattle.step_hart.specs.Hart.{hart}
 use Rattle.step_hart.specs.Run.{run_from}
 use Rattle.step_hart.specs.declared.Hart.{Hart}
 use Rattle.step_hart.proofs.Turns.{one_step}
-use Rattle.run_call.specs.Call.{refusal_of, run_refusal_of, called_of, step_from_call, run_call_of, step, step_given_word, run}
-use Rattle.sporhulma.specs.Boundary.{left_by, left_from, left_of}
+use Rattle.run_call.specs.Call.{refusal_of, run_refusal_of, called_of, step_from_call, run_call_of}
+use Rattle.sporhulma.specs.Boundary.{left_by, step_left_of, step_word_left, run_left, left_from}
 
 none_more : (n : ℕ) → pick (eqb n 0) 0 n ≡ n
 none_more n = go (eqb n 0) refl
@@ -24,20 +23,20 @@ none_more n = go (eqb n 0) refl
     go true e = sym (eqb-true n 0 e)
     go false e = refl
 
-step_called : (source : Source) (h : Hart) (m : List ℕ) (lent : Lent)
-    → step_from_call source h m lent ≡ called_of (run_refusal_of 1 h m lent) h m (run_from source 1 h m (lent_map_of lent))
+step_called : (source : Source) (h : Hart) (m map : List ℕ)
+    → step_from_call source h m map ≡ called_of (run_refusal_of 1 h m map) h m (run_from source 1 h m map)
 unfolding step_from_call run_refusal_of
-step_called source h m lent = rw (one_step source h m (lent_map_of lent), none_more (refusal_of h m lent))
+step_called source h m map = rw (one_step source h m map, none_more (refusal_of h m map))
 
-module _ (x rest m : List ℕ) (lent : Lent) where
-  pub step_one : left_of step x rest m lent ≡ left_from Fetch 1 x rest m lent
-  unfolding left_of left_from
-  step_one = ap left_by (step_called Fetch (hart x rest) m lent)
+module _ (x rest m map : List ℕ) where
+  pub step_one : step_left_of x rest m map ≡ left_from Fetch 1 x rest m map
+  unfolding step_left_of left_from
+  step_one = ap left_by (step_called Fetch (hart x rest) m map)
 
-  pub step_word_one : (word : ℕ) → left_of (step_given_word word) x rest m lent ≡ left_from (Given word) 1 x rest m lent
-  unfolding left_of left_from
-  step_word_one word = ap left_by (step_called (Given word) (hart x rest) m lent)
+  pub step_word_one : (word : ℕ) → step_word_left word x rest m map ≡ left_from (Given word) 1 x rest m map
+  unfolding step_word_left left_from
+  step_word_one word = ap left_by (step_called (Given word) (hart x rest) m map)
 
-  pub run_one : (budget : ℕ) → left_of (run budget) x rest m lent ≡ left_from Fetch budget x rest m lent
-  unfolding left_of run_call_of left_from
+  pub run_one : (budget : ℕ) → run_left budget x rest m map ≡ left_from Fetch budget x rest m map
+  unfolding run_left run_call_of left_from
   run_one budget = refl

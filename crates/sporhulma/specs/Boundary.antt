@@ -1,13 +1,12 @@
 -- The calls for C: what each leaves, in every word and byte, through the definitions of crate `run_call`. Rule 2.12 of docs/HART.md.
 --
--- Below, x and rest are the words of the hart, m memory, lent the page map as the host lends it.
+-- Below, x and rest are the words of the hart, m memory, map the page map.
 use Rattle.std.specs.Prelude.{List, [], ◌∷◌, ℕ}
-use Rattle.address_page.specs.Lent.{Lent, lent_map_of}
 use Rattle.step_meaning.specs.declared.Source.{Source}
-use Rattle.word.specs.Choice.{flag_of}
+use Rattle.csr_words.specs.Words.{flag_of}
 use Rattle.step_hart.specs.Run.{run_from}
 use Rattle.step_hart.specs.Hart.{hart}
-use Rattle.run_call.specs.Call.{Called, run_refusal_of, called_of, Call, call_of}
+use Rattle.run_call.specs.Call.{Called, run_refusal_of, called_of, step_call_of, step_word_call, run_call_of}
 
 -- what a call leaves: its result, the hart's words, the three words of its answer (count, trapped, cause), and memory
 pub record Left : Type 0 where
@@ -27,10 +26,16 @@ left_by c = record {
   memory = c.memory;
 }
 
-unfoldable pub left_of : Call → (x rest m : List ℕ) (lent : Lent) → Left
-left_of call x rest m lent = left_by (call_of call (hart x rest) m lent)
+unfoldable pub step_left_of : (x rest m map : List ℕ) → Left
+step_left_of x rest m map = left_by (step_call_of (hart x rest) m map)
+
+unfoldable pub step_word_left : (word : ℕ) → (x rest m map : List ℕ) → Left
+step_word_left word x rest m map = left_by (step_word_call word (hart x rest) m map)
+
+unfoldable pub run_left : (budget : ℕ) → (x rest m map : List ℕ) → Left
+run_left budget x rest m map = left_by (run_call_of budget (hart x rest) m map)
 
 -- all three at once: a run whose first word comes from a source (`Rattle.sporhulma.proofs.One` says that each is one)
-unfoldable pub left_from : Source → (budget : ℕ) → (x rest m : List ℕ) (lent : Lent) → Left
-left_from source budget x rest m lent =
-    left_by (called_of (run_refusal_of budget (hart x rest) m lent) (hart x rest) m (run_from source budget (hart x rest) m (lent_map_of lent)))
+unfoldable pub left_from : Source → (budget : ℕ) → (x rest m map : List ℕ) → Left
+left_from source budget x rest m map =
+    left_by (called_of (run_refusal_of budget (hart x rest) m map) (hart x rest) m (run_from source budget (hart x rest) m map))

@@ -1,6 +1,6 @@
 -- The load for C: what it leaves, in every word and byte, through the definition of crate `hex`. Rule 11.20 of docs/HART.md.
 use Rattle.std.specs.Prelude.{List, [], ◌∷◌, ℕ}
-use Rattle.hex.specs.Load.{load_hex_of}
+use Rattle.hex.specs.Load.{HexCalled, load_hex_of}
 
 -- what a load leaves: its result, the three words of its answer (line, 1 if a start address was given, the start address), and memory
 pub record LoadLeft : Type 0 where
@@ -9,9 +9,12 @@ pub record LoadLeft : Type 0 where
   pub memory : List ℕ
 
 -- what a load of crate `hex` leaves, as words
-abbrev pub load_left : (text mem : List ℕ) → LoadLeft
-load_left text mem = record {
-  result = (load_hex_of text mem).answer.refusal;
-  answer = (load_hex_of text mem).answer.line ∷ (load_hex_of text mem).answer.given ∷ (load_hex_of text mem).answer.start ∷ [];
-  memory = (load_hex_of text mem).memory;
+abbrev pub load_left_by : HexCalled → LoadLeft
+load_left_by c = record {
+  result = c.answer.refusal;
+  answer = c.answer.line ∷ c.answer.given ∷ c.answer.start ∷ [];
+  memory = c.memory;
 }
+
+abbrev pub load_left : (text mem : List ℕ) → LoadLeft
+load_left text mem = load_left_by (load_hex_of text mem)

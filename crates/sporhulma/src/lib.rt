@@ -4,9 +4,7 @@
 // A hart is the words x and rest. Anything may be handed in; what a call leaves of every word and byte is stated in
 // specs/Boundary.antt, and what a load leaves in specs/Load.antt.
 ghost use Rattle.std.specs.Prelude.{◌≡◌, [], ◌∷◌};
-ghost use Rattle.address_page.specs.Lent.{Columns};
-ghost use Rattle.run_call.specs.Call.{step, step_given_word, run};
-ghost use Rattle.sporhulma.specs.Boundary.{left_of, left_from};
+ghost use Rattle.sporhulma.specs.Boundary.{step_left_of, step_word_left, run_left, left_from};
 ghost use Rattle.sporhulma.specs.Load.{load_left};
 
 use csr_words::{COUNT, flag};
@@ -28,24 +26,23 @@ fn call(
     rest: &mut [u64; COUNT],
     source: Source,
     mem: &mut [u8],
-    pages: &[u32],
-    leaves: &[u64],
+    map: &[u64],
     budget: u64,
     answer: &mut [u64; 3],
 ) -> u64
-    ensures result { result ≡ (left_from source budget x.old rest.old mem.old (Columns pages.now leaves.now)).result }
+    ensures result { result ≡ (left_from source budget x.old rest.old mem.old map.now).result }
     ensures registers { x.new ≡ (left_from source budget x.old rest.old mem.old
-        (Columns pages.now leaves.now)).x }
+        map.now).x }
     ensures others { rest.new ≡ (left_from source budget x.old rest.old mem.old
-        (Columns pages.now leaves.now)).rest }
+        map.now).rest }
     ensures memory { mem.new ≡ (left_from source budget x.old rest.old mem.old
-        (Columns pages.now leaves.now)).memory }
+        map.now).memory }
     ensures answer { answer.new ≡ (left_from source budget x.old rest.old mem.old
-        (Columns pages.now leaves.now)).answer }
+        map.now).answer }
 {
-    let n = run_call::run_refusal(x, rest, mem, pages, leaves, budget);
+    let n = run_call::run_refusal(x, rest, mem, map, budget);
     if n == 0 {
-        let t = run::run(x, rest, source, mem, pages, leaves, budget);
+        let t = run::run(x, rest, source, mem, map, budget);
         *answer = [t.count, flag(t.trapped), t.cause];
         return 0;
     }
@@ -58,17 +55,16 @@ pub extern "C" fn sporhulma_step(
     x: &mut [u64; 32],
     rest: &mut [u64; COUNT],
     mem: &mut [u8],
-    pages: &[u32],
-    leaves: &[u64],
+    map: &[u64],
     answer: &mut [u64; 3],
 ) -> u64
-    ensures result { result ≡ (left_of step x.old rest.old mem.old (Columns pages.now leaves.now)).result }
-    ensures registers { x.new ≡ (left_of step x.old rest.old mem.old (Columns pages.now leaves.now)).x }
-    ensures others { rest.new ≡ (left_of step x.old rest.old mem.old (Columns pages.now leaves.now)).rest }
-    ensures memory { mem.new ≡ (left_of step x.old rest.old mem.old (Columns pages.now leaves.now)).memory }
-    ensures answer { answer.new ≡ (left_of step x.old rest.old mem.old (Columns pages.now leaves.now)).answer }
+    ensures result { result ≡ (step_left_of x.old rest.old mem.old map.now).result }
+    ensures registers { x.new ≡ (step_left_of x.old rest.old mem.old map.now).x }
+    ensures others { rest.new ≡ (step_left_of x.old rest.old mem.old map.now).rest }
+    ensures memory { mem.new ≡ (step_left_of x.old rest.old mem.old map.now).memory }
+    ensures answer { answer.new ≡ (step_left_of x.old rest.old mem.old map.now).answer }
 {
-    call(x, rest, Source::Fetch, mem, pages, leaves, 1, answer)
+    call(x, rest, Source::Fetch, mem, map, 1, answer)
 }
 
 // One step with a given word, as if it had been fetched at pc.
@@ -77,19 +73,18 @@ pub extern "C" fn sporhulma_step_word(
     x: &mut [u64; 32],
     rest: &mut [u64; COUNT],
     mem: &mut [u8],
-    pages: &[u32],
-    leaves: &[u64],
+    map: &[u64],
     word: u32,
     answer: &mut [u64; 3],
 ) -> u64
-    ensures result { result ≡ (left_of (step_given_word word) x.old rest.old mem.old (Columns pages.now leaves.now)).result }
-    ensures registers { x.new ≡ (left_of (step_given_word word) x.old rest.old mem.old (Columns pages.now leaves.now)).x }
-    ensures others { rest.new ≡ (left_of (step_given_word word) x.old rest.old mem.old (Columns pages.now leaves.now)).rest }
-    ensures memory { mem.new ≡ (left_of (step_given_word word) x.old rest.old mem.old (Columns pages.now leaves.now)).memory }
+    ensures result { result ≡ (step_word_left word x.old rest.old mem.old map.now).result }
+    ensures registers { x.new ≡ (step_word_left word x.old rest.old mem.old map.now).x }
+    ensures others { rest.new ≡ (step_word_left word x.old rest.old mem.old map.now).rest }
+    ensures memory { mem.new ≡ (step_word_left word x.old rest.old mem.old map.now).memory }
     ensures answer { answer.new
-        ≡ (left_of (step_given_word word) x.old rest.old mem.old (Columns pages.now leaves.now)).answer }
+        ≡ (step_word_left word x.old rest.old mem.old map.now).answer }
 {
-    call(x, rest, Source::Given(word), mem, pages, leaves, 1, answer)
+    call(x, rest, Source::Given(word), mem, map, 1, answer)
 }
 
 // Steps up to and including the first that traps, or until the budget is spent.
@@ -98,18 +93,17 @@ pub extern "C" fn sporhulma_run(
     x: &mut [u64; 32],
     rest: &mut [u64; COUNT],
     mem: &mut [u8],
-    pages: &[u32],
-    leaves: &[u64],
+    map: &[u64],
     budget: u64,
     answer: &mut [u64; 3],
 ) -> u64
-    ensures result { result ≡ (left_of (run budget) x.old rest.old mem.old (Columns pages.now leaves.now)).result }
-    ensures registers { x.new ≡ (left_of (run budget) x.old rest.old mem.old (Columns pages.now leaves.now)).x }
-    ensures others { rest.new ≡ (left_of (run budget) x.old rest.old mem.old (Columns pages.now leaves.now)).rest }
-    ensures memory { mem.new ≡ (left_of (run budget) x.old rest.old mem.old (Columns pages.now leaves.now)).memory }
-    ensures answer { answer.new ≡ (left_of (run budget) x.old rest.old mem.old (Columns pages.now leaves.now)).answer }
+    ensures result { result ≡ (run_left budget x.old rest.old mem.old map.now).result }
+    ensures registers { x.new ≡ (run_left budget x.old rest.old mem.old map.now).x }
+    ensures others { rest.new ≡ (run_left budget x.old rest.old mem.old map.now).rest }
+    ensures memory { mem.new ≡ (run_left budget x.old rest.old mem.old map.now).memory }
+    ensures answer { answer.new ≡ (run_left budget x.old rest.old mem.old map.now).answer }
 {
-    call(x, rest, Source::Fetch, mem, pages, leaves, budget, answer)
+    call(x, rest, Source::Fetch, mem, map, budget, answer)
 }
 
 // A text of Intel HEX, loaded into memory.

@@ -1,7 +1,6 @@
 -- The CSR instructions: which CSR, with which operand, and whether it is written. Rules 4.27 and 4.28 of docs/HART.md.
 use Rattle.std.specs.Prelude.{Bool, true, not, List, ℕ, ◌-◌, ◌^◌, eqb}
 use Rattle.std.specs.Int.Bits.{bit_and, bit_or}
-use Rattle.isa.specs.Cases.{source_of}
 use Rattle.isa.specs.declared.CsrOperation.{CsrOperation}
 use Rattle.isa.specs.declared.CsrOperation.TheVariants.{Write, Set, Clear}
 use Rattle.isa.specs.declared.CsrSource.{CsrSource}
@@ -23,6 +22,11 @@ writes_of Write field = true
 writes_of Set field = not (eqb field 0)
 writes_of Clear field = not (eqb field 0)
 
+-- the register's number, or the number itself
+abbrev pub field_of : CsrSource → ℕ
+field_of (Register n) = n
+field_of (Immediate n) = n
+
 abbrev pub operand_of : CsrSource → (x : List ℕ) → ℕ
 operand_of (Register n) x = reg_of x n
 operand_of (Immediate n) x = n
@@ -34,7 +38,7 @@ merged_of Set old v = bit_or old v
 merged_of Clear old v = bit_and old (2 ^ 64 - 1 - v)
 
 unfoldable pub csr_reached_of : Reached → CsrOperation → CsrSource → (rd word : ℕ) → (x : List ℕ) → (next : ℕ) → Effect
-csr_reached_of (reached.To n) o source rd word x next = effect.Privileged (privileged.Csr o n (writes_of o (source_of source)) (operand_of source x) rd next)
+csr_reached_of (reached.To n) o source rd word x next = effect.Privileged (privileged.Csr o n (writes_of o (field_of source)) (operand_of source x) rd next)
 csr_reached_of reached.Illegal o source rd word x next = trap_with (illegal_of word)
 
 unfoldable pub csr_effect_of : CsrOperation → CsrSource → (rd address word : ℕ) → (x : List ℕ) → (next : ℕ) → Mode → (permitted : Bool) → Effect

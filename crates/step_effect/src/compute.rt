@@ -1,7 +1,6 @@
 // What OP, OP-IMM and their word forms compute from two numbers, and when a branch is taken.
 ghost use Rattle.std.specs.Prelude.{◌≡◌};
-ghost use Rattle.step_effect.specs.Compute.{operation_of, word_operation_of, condition_of};
-ghost use Rattle.word.specs.Choice.{flag_of};
+ghost use Rattle.step_effect.specs.Compute.{one_of, operation_of, word_operation_of, condition_of};
 
 use isa::{Condition, Operation, WordOperation};
 use product::{count, divide, extreme, multiply};
@@ -9,7 +8,7 @@ use word::{logic, order, shift, sum};
 
 // 1 where a test holds, else 0.
 pub fn one(b: bool) -> u64
-    ensures { result ≡ flag_of b }
+    ensures { result ≡ one_of b }
 {
     if b {
         return 1;

@@ -1,7 +1,6 @@
 // The CSR instructions: which CSR, with which operand, and whether it is written.
 ghost use Rattle.std.specs.Prelude.{◌≡◌};
-ghost use Rattle.isa.specs.Cases.{source_of};
-ghost use Rattle.step_effect.specs.Csrs.{writes_of, merged_of, operand_of, csr_effect_of};
+ghost use Rattle.step_effect.specs.Csrs.{writes_of, merged_of, field_of, operand_of, csr_effect_of};
 
 use super::{Effect, Privileged, register, system};
 use csr_access::reach;
@@ -23,7 +22,7 @@ pub fn writes(o: CsrOperation, field: u8) -> bool
 
 // The register's number, or the number itself.
 fn field(source: CsrSource) -> u8
-    ensures { result ≡ source_of source }
+    ensures { result ≡ field_of source }
 {
     match source {
         CsrSource::Register(n) => n,

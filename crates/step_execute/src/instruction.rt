@@ -1,6 +1,5 @@
 // One instruction's effect.
 ghost use Rattle.std.specs.Prelude.{◌≡◌, ◌^◌, ◌≤◌, length};
-ghost use Rattle.address_page.specs.Lent.{map_of};
 ghost use Rattle.word.specs.Sum.{sum_of};
 ghost use Rattle.step_effect.specs.Compute.{operation_of, word_operation_of, condition_of};
 ghost use Rattle.step_effect.specs.Jump.{branch_of};
@@ -52,11 +51,10 @@ pub fn execute(
     ssp: u64,
     s: Setting,
     mem: &[u8],
-    pages: &[u32],
-    leaves: &[u64],
+    map: &[u64],
 ) -> Effect
     requires { length mem.now ≤ 2 ^ 20 }
-    ensures { result ≡ execute_of i word x.now pc ssp s mem.now (map_of pages.now leaves.now) }
+    ensures { result ≡ execute_of i word x.now pc ssp s mem.now map.now }
 {
     let next = sum::sum(pc, 4);
     let c = s.control;
@@ -79,8 +77,7 @@ pub fn execute(
             next,
             s,
             mem,
-            pages,
-            leaves,
+            map,
         ),
         Instruction::OpImm(o, rd, rs1, v) => op(o, rd, reg(x, rs1), v, next),
         Instruction::OpImm32(o, rd, rs1, v) => op_32(o, rd, reg(x, rs1), v, next),

@@ -1,6 +1,5 @@
 // A step's effect, in the order of docs/HART.md, 10.1: fetch faults, then the landing pad check, then decoding, then the instruction.
 ghost use Rattle.std.specs.Prelude.{◌≡◌, ◌^◌, ◌≤◌, length};
-ghost use Rattle.address_page.specs.Lent.{map_of};
 ghost use Rattle.step_meaning.specs.Plan.{fetched_of, is_pad_of, landed_of, effect_of};
 
 use super::instruction;
@@ -13,14 +12,14 @@ use step_effect::register::reg;
 use step_meaning::{Fetched, Source};
 use word::{choice, sum};
 
-fn fetch(source: Source, c: Control, pc: u64, mem: &[u8], pages: &[u32], leaves: &[u64]) -> Fetched
+fn fetch(source: Source, c: Control, pc: u64, mem: &[u8], map: &[u64]) -> Fetched
     requires { length mem.now ≤ 2 ^ 20 }
-    ensures { result ≡ fetched_of source c pc mem.now (map_of pages.now leaves.now) }
+    ensures { result ≡ fetched_of source c pc mem.now map.now }
 {
     match source {
         Source::Given(w) => Fetched::Word(w),
         Source::Fetch => {
-            let p = steps::fetch(c, Virtual(pc), pages, leaves, mem);
+            let p = steps::fetch(c, Virtual(pc), map, mem);
             match p {
                 Place::At(q) => Fetched::Word(memory::word(mem, q.index())),
                 Place::Fault(cause, tval) => Fetched::Fault(cause, tval),
@@ -49,11 +48,10 @@ fn landed(
     ssp: u64,
     s: Setting,
     mem: &[u8],
-    pages: &[u32],
-    leaves: &[u64],
+    map: &[u64],
 ) -> Effect
     requires { length mem.now ≤ 2 ^ 20 }
-    ensures { result ≡ landed_of w x.now pc elp ssp s mem.now (map_of pages.now leaves.now) }
+    ensures { result ≡ landed_of w x.now pc elp ssp s mem.now map.now }
 {
     if choice::both(elp, s.pad) {
         if is_pad(w, reg(x, 7)) {
@@ -61,7 +59,7 @@ fn landed(
         }
         return Effect::Trap(18, 2);
     }
-    instruction::execute(decode::decode(w), w, x, pc, ssp, s, mem, pages, leaves)
+    instruction::execute(decode::decode(w), w, x, pc, ssp, s, mem, map)
 }
 
 pub fn plan(
@@ -72,15 +70,14 @@ pub fn plan(
     ssp: u64,
     s: Setting,
     mem: &[u8],
-    pages: &[u32],
-    leaves: &[u64],
+    map: &[u64],
 ) -> Effect
     requires { length mem.now ≤ 2 ^ 20 }
-    ensures { result ≡ effect_of source x.now pc elp ssp s mem.now (map_of pages.now leaves.now) }
+    ensures { result ≡ effect_of source x.now pc elp ssp s mem.now map.now }
 {
     let c = s.control;
-    match fetch(source, c, pc, mem, pages, leaves) {
-        Fetched::Word(w) => landed(w, x, pc, elp, ssp, s, mem, pages, leaves),
+    match fetch(source, c, pc, mem, map) {
+        Fetched::Word(w) => landed(w, x, pc, elp, ssp, s, mem, map),
         Fetched::Fault(cause, tval) => Effect::Trap(cause, tval),
     }
 }

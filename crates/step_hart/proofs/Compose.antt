@@ -7,7 +7,6 @@ use mathlib.Core.Path.{◌≡◌, refl, sym, ap, ◌∙◌}
 use Prim.Native.Nat.{ℕ, zero, suc, ◌+◌}
 use native.Mathlib.Nat.{add_assoc, zero-add, suc-add}
 use native.Mathlib.Omega.{arith}
-use Rattle.address_page.specs.Map.{Map}
 use Rattle.step_meaning.specs.declared.Source.{Source}
 use Rattle.step_meaning.specs.declared.Source.TheVariants.{Fetch}
 use Rattle.step_hart.specs.Run.{Run, after, followed, run_from, run_of}
@@ -20,7 +19,7 @@ onward true r rest = r
 onward false r rest = after r.count rest
 
 -- a run r, and then a run of b steps, which fetch, from where r ended
-abbrev pub then_run : Run → (b : ℕ) → (map : Map) → Run
+abbrev pub then_run : Run → (b : ℕ) → (map : List ℕ) → Run
 then_run r b map = onward r.trapped r (run_of b r.hart r.memory map)
 
 -- no step, and then a run, is that run
@@ -33,13 +32,13 @@ regrouped true r rest = refl
 regrouped false r rest = rw (← add_assoc)
 
 -- the same where the step may trap: then the run is that step, and so is the whole
-stepped : (t : Bool) (o : Outcome) (r : Run) (b : ℕ) (map : Map) → o.trapped ≡ t
+stepped : (t : Bool) (o : Outcome) (r : Run) (b : ℕ) (map : List ℕ) → o.trapped ≡ t
     → followed t o (then_run r b map) ≡ then_run (followed t o r) b map
 stepped true o r b map e = rw e
 stepped false o r b map e = regrouped r.trapped r (run_of b r.hart r.memory map)
 
 -- a step more in the first run
-one_more : (source : Source) (a b : ℕ) (h : Hart) (m : List ℕ) (map : Map)
+one_more : (source : Source) (a b : ℕ) (h : Hart) (m map : List ℕ)
     → run_of (a + b) (step_from source h m map).hart (step_from source h m map).memory map
     ≡ then_run (run_of a (step_from source h m map).hart (step_from source h m map).memory map) b map
     → run_from source (suc a + b) h m map ≡ then_run (run_from source (suc a) h m map) b map
@@ -51,14 +50,14 @@ one_more source a b h m map e =
     ∙ stepped o.trapped o (run_of a o.hart o.memory map) b map refl
 
 -- runs that fetch compose
-pub run_composes : (a b : ℕ) (h : Hart) (m : List ℕ) (map : Map) → run_of (a + b) h m map ≡ then_run (run_of a h m map) b map
+pub run_composes : (a b : ℕ) (h : Hart) (m map : List ℕ) → run_of (a + b) h m map ≡ then_run (run_of a h m map) b map
 unfolding run_from
 run_composes zero b h m map = ap (λ (n : ℕ). run_from Fetch n h m map) (zero-add b) ∙ none_first (run_from Fetch b h m map)
 run_composes (suc a) b h m map =
     one_more Fetch a b h m map (run_composes a b (step_from Fetch h m map).hart (step_from Fetch h m map).memory map)
 
 -- so does a run whose first step takes its word from any source, where that step is one of the first run's: the second one fetches
-pub run_composes_from : (source : Source) (a b : ℕ) (h : Hart) (m : List ℕ) (map : Map)
+pub run_composes_from : (source : Source) (a b : ℕ) (h : Hart) (m map : List ℕ)
     → run_from source (suc a + b) h m map ≡ then_run (run_from source (suc a) h m map) b map
 run_composes_from source a b h m map =
     one_more source a b h m map (run_composes a b (step_from source h m map).hart (step_from source h m map).memory map)
@@ -74,7 +73,7 @@ counted false o rest n e f h =
     omega (arith, c)
 
 -- a run that does not trap takes every step of its budget
-pub run_count : (n : ℕ) (source : Source) (h : Hart) (m : List ℕ) (map : Map) → (run_from source n h m map).trapped ≡ false
+pub run_count : (n : ℕ) (source : Source) (h : Hart) (m map : List ℕ) → (run_from source n h m map).trapped ≡ false
     → (run_from source n h m map).count ≡ n
 unfolding run_from
 run_count zero source h m map e = refl

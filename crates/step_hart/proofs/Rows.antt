@@ -5,7 +5,6 @@ use mathlib.Core.Bool.{Bool, true, false, ◌&&◌}
 use mathlib.Core.List.{List}
 use mathlib.Core.Path.{◌≡◌}
 use Prim.Native.Nat.{ℕ}
-use Rattle.address_page.specs.Map.{Map}
 use Rattle.decode.proofs.Examples.{row_5, row_8, row_9}
 use Rattle.step_meaning.specs.Instruction.{next_of, execute_of}
 use Rattle.step_effect.specs.Jump.{jalr_of}
@@ -21,14 +20,14 @@ use Rattle.step_hart.specs.Step.{Outcome, step_from}
 use Rattle.step_hart.specs.declared.Hart.{Hart}
 
 -- the step that takes a given word as if it had been fetched there
-abbrev step_word_of : (word : ℕ) → Hart → (m : List ℕ) (map : Map) → Outcome
+abbrev step_word_of : (word : ℕ) → Hart → (m map : List ℕ) → Outcome
 step_word_of word h m map = step_from (Given word) h m map
 
 -- a step that did not trap and left memory as it was
 abbrev went : (x w m : List ℕ) → Outcome
 went x w m = record { hart = hart x w; memory = m; trapped = false; cause = 0 }
 
-module _ (x w m : List ℕ) (map : Map) where
+module _ (x w m map : List ℕ) where
   -- the pad enable and the active shadow enable of the hart
   abbrev pads : Bool
   pads = pad_on (MODE of w) (MENVCFG of w) (SENVCFG of w) (MSECCFG of w)

@@ -9,8 +9,7 @@ use native.Mathlib.Omega.{arith}
 use lib.Dec.{eqb}
 use lib.ListN.{length, get_or, set}
 use borrow.Author.Tests.{eq-eqb, eqb-true}
-use Rattle.address_page.specs.Map.{Map}
-use Rattle.word.specs.Choice.{pick, flag_of}
+use Rattle.word.specs.Choice.{pick}
 use Rattle.word.proofs.Bools.{both}
 use Rattle.isa.specs.Size.{size_of}
 use Rattle.isa.specs.declared.Width.{Width}
@@ -31,7 +30,7 @@ use Rattle.step_meaning.proofs.Aligned.{PrivilegedAligned, Aligned, effect_align
 use Rattle.step_meaning.proofs.Stays.{effect_stays}
 use Rattle.step_meaning.specs.declared.Source.{Source}
 use Rattle.step_meaning.specs.declared.Source.TheVariants.{Fetch}
-use Rattle.csr_words.specs.Words.{◌of◌, ◌but◌≔◌, expected, PC, ELP, SSP}
+use Rattle.csr_words.specs.Words.{◌of◌, ◌but◌≔◌, expected, flag_of, PC, ELP, SSP}
 use Rattle.csr_words.specs.Warl.{shown_of, csr_write_of}
 use Rattle.csr_words.specs.Legal.{words_legal}
 use Rattle.csr_words.specs.Setting.{setting_of}
@@ -97,7 +96,7 @@ module _ (h : Hart) (l : LawfulHart h) where
   apply_lawful (effect.Privileged k) a = privileged_lawful k a
   apply_lawful (Trap cause tval) a = record { zero = l.zero; words = trap_lawful h.words cause tval l.words }
 
-pub step_lawful : (source : Source) (h : Hart) (m : List ℕ) (map : Map) → LawfulHart h → LawfulHart (step_from source h m map).hart
+pub step_lawful : (source : Source) (h : Hart) (m map : List ℕ) → LawfulHart h → LawfulHart (step_from source h m map).hart
 unfolding step_from
 step_lawful source h m map l =
     let w : List ℕ = h.words in
@@ -105,7 +104,7 @@ step_lawful source h m map l =
     (effect_aligned h.x (PC of w) (SSP of w) (setting_of w) m map (pc_four w l.words) (ssp_eight w l.words) source (expected w))
 
 -- a step of a hart that refusal 1 lets pass leaves one that it lets pass
-pub step_legal : (source : Source) (h : Hart) (m : List ℕ) (map : Map) → legal h ≡ true → legal (step_from source h m map).hart ≡ true
+pub step_legal : (source : Source) (h : Hart) (m map : List ℕ) → legal h ≡ true → legal (step_from source h m map).hart ≡ true
 step_legal source h m map e = legal_hart (step_from source h m map).hart (step_lawful source h m map (lawful_hart h e))
 
 -- a store of a width keeps the length, where it stays in memory
@@ -125,7 +124,7 @@ memory_length (effect.Privileged k) m s = refl
 memory_length (Trap cause tval) m s = refl
 
 -- every step keeps memory's length
-pub step_length : (source : Source) (h : Hart) (m : List ℕ) (map : Map) → length (step_from source h m map).memory ≡ length m
+pub step_length : (source : Source) (h : Hart) (m map : List ℕ) → length (step_from source h m map).memory ≡ length m
 unfolding step_from
 step_length source h m map =
     let w : List ℕ = h.words in
@@ -138,7 +137,7 @@ followed_all P true o rest a b = a
 followed_all P false o rest a b = b
 
 -- so does a run, of any number of steps
-pub run_legal : (source : Source) (n : ℕ) (h : Hart) (m : List ℕ) (map : Map) → legal h ≡ true → legal (run_from source n h m map).hart ≡ true
+pub run_legal : (source : Source) (n : ℕ) (h : Hart) (m map : List ℕ) → legal h ≡ true → legal (run_from source n h m map).hart ≡ true
 unfolding run_from
 run_legal source zero h m map e = e
 run_legal source (suc n) h m map e =
@@ -146,7 +145,7 @@ run_legal source (suc n) h m map e =
     let s = step_legal source h m map e in
     followed_all (λ g k. legal g ≡ true) o.trapped o (run_from Fetch n o.hart o.memory map) s (run_legal Fetch n o.hart o.memory map s)
 
-pub run_length : (source : Source) (n : ℕ) (h : Hart) (m : List ℕ) (map : Map) → length (run_from source n h m map).memory ≡ length m
+pub run_length : (source : Source) (n : ℕ) (h : Hart) (m map : List ℕ) → length (run_from source n h m map).memory ≡ length m
 unfolding run_from
 run_length source zero h m map = refl
 run_length source (suc n) h m map =

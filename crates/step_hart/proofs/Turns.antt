@@ -6,32 +6,27 @@ use mathlib.Core.Path.{◌≡◌, refl, sym, ap, ◌∙◌}
 use Prim.Native.Nat.{ℕ, suc, ◌+◌, ◌-◌, ◌<◌, ◌≤◌}
 use native.Mathlib.Nat.{add_assoc}
 use native.Mathlib.Omega.{arith}
-use Rattle.address_page.specs.Map.{Map}
 use Rattle.step_meaning.specs.declared.Source.{Source}
 use Rattle.step_meaning.specs.declared.Source.TheVariants.{Fetch}
 use Rattle.step_effect.specs.declared.Effect.{Effect}
 use Rattle.step_effect.specs.declared.Effect.TheVariants.{Write, Jump, Pad, Store, Push, Pop, Swap, Privileged, Trap}
 use Rattle.step_hart.specs.Hart.{hart}
-use Rattle.step_hart.specs.Run.{Run, after, once, followed, run_from, Midway}
+use Rattle.step_hart.specs.Run.{Run, after, stayed, once, followed, run_from, Midway}
 use Rattle.step_hart.specs.Step.{Outcome, traps_of, cause_of, plan_of, step_from, stepped_of}
 use Rattle.step_hart.specs.declared.Hart.{Hart}
 use Rattle.step_hart.specs.declared.methods.Stepped.{Stepped}
-
--- no step
-abbrev pub stayed : Hart → (m : List ℕ) → Run
-stayed h m = record { hart = h; memory = m; count = 0; trapped = false; cause = 0 }
 
 -- registers and words are the hart
 pub same_hart : (h : Hart) (x w : List ℕ) → x ≡ h.x → w ≡ h.words → hart x w ≡ h
 same_hart h x w e f = rw (e, f)
 
-pub start : (source : Source) (budget : ℕ) (h : Hart) (m : List ℕ) (map : Map) → Midway (run_from source budget h m map) budget budget source h m map
+pub start : (source : Source) (budget : ℕ) (h : Hart) (m map : List ℕ) → Midway (run_from source budget h m map) budget budget source h m map
 start source budget h m map =
     let e : budget - budget ≡ 0 = omega arith in
     let z : 0 + (run_from source budget h m map).count ≡ (run_from source budget h m map).count = omega arith in
     (omega arith, rw (e, z))
 
-module _ (source : Source) (k n : ℕ) (g : Hart) (m : List ℕ) (map : Map) where
+module _ (source : Source) (k n : ℕ) (g : Hart) (m map : List ℕ) where
   turn : (step_from source g m map).trapped ≡ false
       → after k (run_from source (suc n) g m map)
       ≡ after (k + 1) (run_from Fetch n (step_from source g m map).hart (step_from source g m map).memory map)
@@ -50,7 +45,7 @@ module _ (source : Source) (k n : ℕ) (g : Hart) (m : List ℕ) (map : Map) whe
   unfolding run_from
   last_turn q = rw q
 
-module _ (whole : Run) (budget left : ℕ) (source : Source) (g : Hart) (m : List ℕ) (map : Map) (now : Midway whole budget left source g m map) where
+module _ (whole : Run) (budget left : ℕ) (source : Source) (g : Hart) (m map : List ℕ) (now : Midway whole budget left source g m map) where
   -- a step that does not trap
   pub again : 0 < left → (step_from source g m map).trapped ≡ false
       → Midway whole budget (left - 1) Fetch (step_from source g m map).hart (step_from source g m map).memory map
@@ -95,7 +90,7 @@ module _ (whole : Run) (budget left : ℕ) (source : Source) (g : Hart) (m : Lis
       now.1 ∙ ap (λ (n : ℕ). after (budget - n) (run_from source n g m map)) z ∙ rw k
 
 -- what was taken of what was left, was taken of the whole
-pub joined : (whole : Run) (budget left less : ℕ) (source : Source) (g h : Hart) (m n : List ℕ) (map : Map)
+pub joined : (whole : Run) (budget left less : ℕ) (source : Source) (g h : Hart) (m n map : List ℕ)
     → Midway whole budget left source g m map → Midway (run_from source left g m map) left less source h n map
     → Midway whole budget less source h n map
 joined whole budget left less source g h m n map a b =
@@ -120,7 +115,7 @@ no_cause (Swap rd old r w v next) q = refl
 no_cause (Privileged k) q = refl
 no_cause (Trap c t) q = cc
 
-pub one_step : (source : Source) (h : Hart) (m : List ℕ) (map : Map) → run_from source 1 h m map ≡ once (step_from source h m map)
+pub one_step : (source : Source) (h : Hart) (m map : List ℕ) → run_from source 1 h m map ≡ once (step_from source h m map)
 unfolding run_from step_from
 one_step source h m map =
     followed_once (step_from source h m map).trapped (step_from source h m map) refl (no_cause (plan_of source h m map))

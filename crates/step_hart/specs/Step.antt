@@ -3,8 +3,7 @@
 --
 -- Below, h is the hart, m memory, e the effect.
 use Rattle.std.specs.Prelude.{Bool, true, false, List, ℕ}
-use Rattle.address_page.specs.Map.{Map}
-use Rattle.word.specs.Choice.{pick, flag_of}
+use Rattle.word.specs.Choice.{pick}
 use Rattle.isa.specs.declared.CsrOperation.{CsrOperation}
 use Rattle.csr.specs.declared.Csr.{Csr}
 use Rattle.step_effect.specs.Csrs.{merged_of}
@@ -17,7 +16,7 @@ use Rattle.step_effect.specs.declared.Effect.TheVariants as effect
 use Rattle.step_meaning.specs.declared.Source.{Source}
 use Rattle.step_effect.specs.declared.Privileged.{Privileged}
 use Rattle.step_effect.specs.declared.Privileged.TheVariants as privileged
-use Rattle.csr_words.specs.Words.{◌of◌, ◌but◌≔◌, expected, PC, ELP, SSP}
+use Rattle.csr_words.specs.Words.{◌of◌, ◌but◌≔◌, expected, flag_of, PC, ELP, SSP}
 use Rattle.csr_words.specs.Warl.{shown_of, csr_write_of}
 use Rattle.csr_words.specs.Setting.{setting_of}
 use Rattle.csr_words.specs.Return.{mret_of, sret_of}
@@ -84,10 +83,10 @@ abbrev pub outcome_of : Effect → Hart → (m : List ℕ) → Outcome
 outcome_of e h m = record { hart = apply_of e h; memory = memory_of e m; trapped = traps_of e; cause = cause_of e }
 
 -- the effect of the instruction
-abbrev pub plan_of : Source → Hart → (m : List ℕ) (map : Map) → Effect
+abbrev pub plan_of : Source → Hart → (m map : List ℕ) → Effect
 plan_of source h m map = effect_of source h.x (PC of h.words) (expected h.words) (SSP of h.words) (setting_of h.words) m map
 
-unfoldable pub step_from : Source → Hart → (m : List ℕ) (map : Map) → Outcome
+unfoldable pub step_from : Source → Hart → (m map : List ℕ) → Outcome
 step_from source h m map = outcome_of (plan_of source h m map) h m
 
 -- an outcome as the code hands it back, memory apart

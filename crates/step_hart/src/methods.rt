@@ -1,6 +1,5 @@
 // Each operation on a hart's words, of a hart by value.
 ghost use Rattle.std.specs.Prelude.{◌≡◌, ◌^◌, ◌≤◌, length};
-ghost use Rattle.address_page.specs.Lent.{map_of};
 ghost use Rattle.csr_words.specs.Warl.{shown_of, csr_write_of};
 ghost use Rattle.csr_words.specs.Return.{mret_of, sret_of};
 ghost use Rattle.csr_words.specs.Trap.{trap_of};
@@ -84,15 +83,15 @@ impl Hart {
     }
 
     // A step that fetches, or that takes a given word.
-    pub fn step(mut self, source: Source, mem: &mut [u8], pages: &[u32], leaves: &[u64]) -> Stepped
+    pub fn step(mut self, source: Source, mem: &mut [u8], map: &[u64]) -> Stepped
         requires { length mem.old ≤ 2 ^ 20 }
-        ensures answer { result ≡ stepped_of (step_from source self mem.old (map_of pages.now leaves.now)) }
-        ensures memory { mem.new ≡ (step_from source self mem.old (map_of pages.now leaves.now)).memory }
+        ensures answer { result ≡ stepped_of (step_from source self mem.old map.now) }
+        ensures memory { mem.new ≡ (step_from source self mem.old map.now).memory }
     {
         let mut x = self.x;
         let mut w = self.words;
         let s = setting::setting(&w);
-        let d = step::one(&mut x, &mut w, source, s, mem, pages, leaves);
+        let d = step::one(&mut x, &mut w, source, s, mem, map);
         self.x = x;
         self.words = w;
         Stepped {

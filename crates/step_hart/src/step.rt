@@ -1,6 +1,5 @@
 // A step: the effect of the instruction at pc, or of a given word, applied to the hart and to memory.
 ghost use Rattle.std.specs.Prelude.{false, ◌≡◌, ◌^◌, ◌≤◌, length};
-ghost use Rattle.address_page.specs.Lent.{map_of};
 ghost use Rattle.csr_words.specs.Setting.{setting_of};
 ghost use Rattle.step_hart.specs.Hart.{hart};
 ghost use Rattle.step_hart.specs.Step.{step_from};
@@ -19,20 +18,19 @@ pub fn one(
     source: Source,
     s: Setting,
     mem: &mut [u8],
-    pages: &[u32],
-    leaves: &[u64],
+    map: &[u64],
 ) -> Done
     requires { (length mem.old ≤ 2 ^ 20) × (s ≡ setting_of w.old) }
     ensures registers { x.new ≡ (step_from source (hart x.old w.old) mem.old
-        (map_of pages.now leaves.now)).hart.x }
+        map.now).hart.x }
     ensures words { w.new ≡ (step_from source (hart x.old w.old) mem.old
-        (map_of pages.now leaves.now)).hart.words }
+        map.now).hart.words }
     ensures memory { mem.new ≡ (step_from source (hart x.old w.old) mem.old
-        (map_of pages.now leaves.now)).memory }
-    ensures told { (result.trapped ≡ (step_from source (hart x.old w.old) mem.old (map_of pages.now leaves.now)).trapped)
-        × (result.cause ≡ (step_from source (hart x.old w.old) mem.old (map_of pages.now leaves.now)).cause) }
+        map.now).memory }
+    ensures told { (result.trapped ≡ (step_from source (hart x.old w.old) mem.old map.now).trapped)
+        × (result.cause ≡ (step_from source (hart x.old w.old) mem.old map.now).cause) }
     ensures setting { result.switched ≡ false → setting_of w.new ≡ setting_of w.old }
 {
-    let e = plan::plan(source, x, w[PC], w[ELP] == 1, w[SSP], s, mem, pages, leaves);
+    let e = plan::plan(source, x, w[PC], w[ELP] == 1, w[SSP], s, mem, map);
     apply::apply(x, w, mem, e)
 }

@@ -9,7 +9,6 @@ use borrow.Author.Tests.{eqb-true}
 use lib.Dec.{eqb}
 use lib.ListN.{length}
 use native.Mathlib.Omega.{arith}
-use Rattle.address_page.specs.Map.{Map}
 use Rattle.word.specs.Choice.{pick}
 use Rattle.word.specs.Sum.{sum_of}
 use Rattle.decode.specs.Decode.{decode_of}
@@ -115,7 +114,7 @@ module _ (a b ssp next : ℕ) (m : List ℕ) (p : ssp % 8 ≡ 0) (n : next % 4 �
   at_aligned k (At q) rd = done_aligned k q rd
   at_aligned k (Fault cause tval) rd = tt
 
-  passed_aligned : (g : Gate) (k : Access) (word rd off : ℕ) (s : Setting) (map : Map)
+  passed_aligned : (g : Gate) (k : Access) (word rd off : ℕ) (s : Setting) (map : List ℕ)
       → Aligned (passed_of g k word rd a b off ssp next s m map)
   unfolding passed_of
   passed_aligned gate.Open k word rd off s map =
@@ -123,7 +122,7 @@ module _ (a b ssp next : ℕ) (m : List ℕ) (p : ssp % 8 ≡ 0) (n : next % 4 �
   passed_aligned gate.Off k word rd off s map = n
   passed_aligned gate.Illegal k word rd off s map = tt
 
-module _ (x : List ℕ) (pc ssp : ℕ) (s : Setting) (m : List ℕ) (map : Map) (p : pc % 4 ≡ 0) (q : ssp % 8 ≡ 0) where
+module _ (x : List ℕ) (pc ssp : ℕ) (s : Setting) (m map : List ℕ) (p : pc % 4 ≡ 0) (q : ssp % 8 ≡ 0) where
   next_aligned : next_of pc % 4 ≡ 0
   next_aligned = omega (arith, p)
 

@@ -7,7 +7,6 @@ use Prim.Native.Nat.{ℕ, ◌%◌}
 use lib.Dec.{eqb}
 use lib.ListN.{length}
 use native.Mathlib.Omega.{arith}
-use Rattle.address_page.specs.Map.{Map}
 use Rattle.word.specs.Choice.{pick}
 use Rattle.word.specs.Sum.{sum_of}
 use Rattle.decode.specs.Decode.{decode_of}
@@ -96,7 +95,7 @@ unfolding at_of
 at_stays k (At q) rd a b ssp next m h = done_stays k q rd a b ssp next m (h q refl)
 at_stays k (Fault cause tval) rd a b ssp next m h = omega arith
 
-passed_stays : (g : Gate) (k : Access) (word rd a b off ssp next : ℕ) (s : Setting) (m : List ℕ) (map : Map)
+passed_stays : (g : Gate) (k : Access) (word rd a b off ssp next : ℕ) (s : Setting) (m map : List ℕ)
     → Stays (passed_of g k word rd a b off ssp next s m map) (length m)
 unfolding passed_of
 passed_stays gate.Open k word rd a b off ssp next s m map =
@@ -104,7 +103,7 @@ passed_stays gate.Open k word rd a b off ssp next s m map =
 passed_stays gate.Off k word rd a b off ssp next s m map = omega arith
 passed_stays gate.Illegal k word rd a b off ssp next s m map = omega arith
 
-module _ (x : List ℕ) (pc ssp : ℕ) (s : Setting) (m : List ℕ) (map : Map) where
+module _ (x : List ℕ) (pc ssp : ℕ) (s : Setting) (m map : List ℕ) where
   execute_stays : (word : ℕ) (i : Instruction) → Stays (execute_of i word x pc ssp s m map) (length m)
   unfolding execute_of access_of csr_effect_of
   execute_stays word Illegal = omega arith
@@ -141,7 +140,7 @@ module _ (x : List ℕ) (pc ssp : ℕ) (s : Setting) (m : List ℕ) (map : Map) 
   arrived_stays (fetched.Fault cause tval) elp = omega arith
   arrived_stays (fetched.Word w) elp = landed_stays w elp
 
-pub effect_stays : (source : Source) (x : List ℕ) (pc : ℕ) (elp : Bool) (ssp : ℕ) (s : Setting) (m : List ℕ) (map : Map)
+pub effect_stays : (source : Source) (x : List ℕ) (pc : ℕ) (elp : Bool) (ssp : ℕ) (s : Setting) (m map : List ℕ)
     → Stays (effect_of source x pc elp ssp s m map) (length m)
 unfolding effect_of
 effect_stays source x pc elp ssp s m map = arrived_stays x pc ssp s m map (fetched_of source s.control pc m map) elp

@@ -1,7 +1,6 @@
 -- One instruction's effect: what RV64I, ECALL, EBREAK, the CSR instructions, MRET, SRET, Zimop, Zicfiss and Zicfilp do, from
 -- the registers x, pc, ssp, what the hart's mode and CSRs say (s), memory m and the map. Rules of docs/HART.md: chapter 4, 8.6 and 9.2.
 use Rattle.std.specs.Prelude.{Bool, List, ℕ}
-use Rattle.address_page.specs.Map.{Map}
 use Rattle.word.specs.Choice.{pick}
 use Rattle.word.specs.Sum.{sum_of}
 use Rattle.isa.specs.declared.Instruction.{Instruction}
@@ -26,7 +25,7 @@ next_of pc = sum_of pc 4
 abbrev pub ssp_shown_of : (on : Bool) → (ssp : ℕ) → ℕ
 ssp_shown_of on ssp = pick on ssp 0
 
-unfoldable pub execute_of : Instruction → (word : ℕ) → (x : List ℕ) → (pc ssp : ℕ) → Setting → (m : List ℕ) (map : Map) → Effect
+unfoldable pub execute_of : Instruction → (word : ℕ) → (x : List ℕ) → (pc ssp : ℕ) → Setting → (m map : List ℕ) → Effect
 execute_of Illegal word x pc ssp s m map = trap_with (illegal_of word)
 execute_of (Lui rd v) word x pc ssp s m map = Write rd v (next_of pc)
 execute_of (Auipc rd v) word x pc ssp s m map = Write rd (sum_of pc v) (next_of pc)

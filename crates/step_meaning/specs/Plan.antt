@@ -1,6 +1,5 @@
 -- A step's effect, in the order of docs/HART.md, 10.1: fetch faults, then the landing pad check, then decoding, then the instruction.
 use Rattle.std.specs.Prelude.{Bool, ◌&&◌, ◌||◌, List, ℕ, ◌/◌, ◌%◌, ◌^◌, eqb, length}
-use Rattle.address_page.specs.Map.{Map}
 use Rattle.word.specs.Choice.{pick}
 use Rattle.word.specs.Field.{bits}
 use Rattle.decode.specs.Decode.{decode_of}
@@ -27,7 +26,7 @@ word_at (place.At q) m = fetched.Word (read_of m q width.Word)
 word_at (place.Fault cause tval) m = fetched.Fault cause tval
 
 -- one call fetches at pc, one takes a given word as if it had been fetched there (no fetch fault)
-unfoldable pub fetched_of : Source → Control → (pc : ℕ) → (m : List ℕ) (map : Map) → Fetched
+unfoldable pub fetched_of : Source → Control → (pc : ℕ) → (m map : List ℕ) → Fetched
 fetched_of source.Fetch c pc m map = word_at (place_of c kind.Fetch width.Word pc map (length m)) m
 fetched_of (source.Given w) c pc m map = fetched.Word w
 
@@ -37,15 +36,15 @@ is_pad_of w x7 = eqb (w % 2 ^ 12) 0b00000_0010111 && (eqb (w / 2 ^ 12) 0 || eqb 
 
 -- with ELP and the enable set, the word must be a landing pad, and then ELP becomes 0; else cause 18, tval 2. While the enable
 -- is off, the check is skipped
-unfoldable pub landed_of : (w : ℕ) → (x : List ℕ) → (pc : ℕ) → (elp : Bool) → (ssp : ℕ) → Setting → (m : List ℕ) (map : Map) → Effect
+unfoldable pub landed_of : (w : ℕ) → (x : List ℕ) → (pc : ℕ) → (elp : Bool) → (ssp : ℕ) → Setting → (m map : List ℕ) → Effect
 landed_of w x pc elp ssp s m map =
     pick (elp && s.pad)
     (pick (is_pad_of w (reg_of x 7)) (Pad (next_of pc)) (Trap 18 2))
     (execute_of (decode_of w) w x pc ssp s m map)
 
-unfoldable pub arrived_of : Fetched → (x : List ℕ) → (pc : ℕ) → (elp : Bool) → (ssp : ℕ) → Setting → (m : List ℕ) (map : Map) → Effect
+unfoldable pub arrived_of : Fetched → (x : List ℕ) → (pc : ℕ) → (elp : Bool) → (ssp : ℕ) → Setting → (m map : List ℕ) → Effect
 arrived_of (fetched.Word w) x pc elp ssp s m map = landed_of w x pc elp ssp s m map
 arrived_of (fetched.Fault cause tval) x pc elp ssp s m map = Trap cause tval
 
-unfoldable pub effect_of : Source → (x : List ℕ) → (pc : ℕ) → (elp : Bool) → (ssp : ℕ) → Setting → (m : List ℕ) (map : Map) → Effect
+unfoldable pub effect_of : Source → (x : List ℕ) → (pc : ℕ) → (elp : Bool) → (ssp : ℕ) → Setting → (m map : List ℕ) → Effect
 effect_of source x pc elp ssp s m map = arrived_of (fetched_of source s.control pc m map) x pc elp ssp s m map

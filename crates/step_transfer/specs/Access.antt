@@ -4,7 +4,6 @@
 -- Below, a and b are the values of rs1 and rs2, next is the address of the next instruction, s what the hart's mode and CSRs
 -- say, m memory.
 use Rattle.std.specs.Prelude.{Bool, true, List, ℕ, ◌-◌, eqb, length}
-use Rattle.address_page.specs.Map.{Map}
 use Rattle.word.specs.Choice.{pick}
 use Rattle.word.specs.Sum.{sum_of, difference_of}
 use Rattle.isa.specs.Size.{size_of, width_of}
@@ -73,11 +72,12 @@ unfoldable pub at_of : Access → Place → (rd a b ssp next : ℕ) → (m : Lis
 at_of k (At q) rd a b ssp next m = done_of k q rd a b ssp next m
 at_of k (Fault cause tval) rd a b ssp next m = Trap cause tval
 
-unfoldable pub passed_of : Gate → Access → (word rd a b off ssp next : ℕ) → Setting → (m : List ℕ) (map : Map) → Effect
+unfoldable pub passed_of : Gate → Access → (word rd a b off ssp next : ℕ) → Setting → (m map : List ℕ) → Effect
 passed_of Open k word rd a b off ssp next s m map =
     at_of k (place_of s.control (kind_of k) (width_of k) (address_of k (sum_of a off) ssp) map (length m)) rd a b ssp next m
 passed_of Off k word rd a b off ssp next s m map = Write rd 0 next
 passed_of Illegal k word rd a b off ssp next s m map = trap_with (illegal_of word)
 
-unfoldable pub access_of : Access → (word rd a b off ssp next : ℕ) → Setting → (m : List ℕ) (map : Map) → Effect
-access_of k word rd a b off ssp next s m map = passed_of (gate_of_instruction k s.shadow s.permitted) k word rd a b off ssp next s m map
+unfoldable pub access_of : Access → (word rd a b off ssp next : ℕ) → Setting → (m map : List ℕ) → Effect
+access_of k word rd a b off ssp next s m map =
+    passed_of (gate_of_instruction k s.shadow s.permitted) k word rd a b off ssp next s m map

@@ -1,6 +1,5 @@
 // Loads, stores and the shadow stack: whether the instruction is on, then its place, and then what it does there.
 ghost use Rattle.std.specs.Prelude.{◌≡◌, ◌^◌, ◌≤◌, length};
-ghost use Rattle.address_page.specs.Lent.{map_of};
 ghost use Rattle.isa.specs.Size.{width_of};
 ghost use Rattle.address_place.specs.declared.Physical.{Physical};
 ghost use Rattle.address_place.specs.declared.Place.TheVariants.{At};
@@ -118,17 +117,16 @@ pub fn access(
     next: u64,
     s: Setting,
     mem: &[u8],
-    pages: &[u32],
-    leaves: &[u64],
+    map: &[u64],
 ) -> Effect
     requires { length mem.now ≤ 2 ^ 20 }
-    ensures { result ≡ access_of k word rd a b off ssp next s mem.now (map_of pages.now leaves.now) }
+    ensures { result ≡ access_of k word rd a b off ssp next s mem.now map.now }
 {
     match gate_of(k, s.shadow, s.permitted) {
         Gate::Open => {
             let c = s.control;
             let to = address(k, sum::sum(a, off), ssp);
-            let p = steps::translate(c, kind::kind(k), size::width(k), to, pages, leaves, mem);
+            let p = steps::translate(c, kind::kind(k), size::width(k), to, map, mem);
             at(k, p, rd, a, b, ssp, next, mem)
         }
         Gate::Off => Effect::Write(rd, 0, next),

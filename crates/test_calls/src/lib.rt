@@ -11,43 +11,31 @@ use run_call::Answer;
 use step_hart::Hart;
 use test_acts::state;
 use test_lines::line::MOST;
-use test_lines::{columns, row};
+use test_lines::row;
 use test_scene::Difference;
 
 // How many numbers are wanted before the pairs.
 const WANTED: usize = 56;
 
-fn called(
-    call: u64,
-    argument: u64,
-    h: Hart,
-    mem: &mut [u8],
-    pages: &[u32],
-    leaves: &[u64],
-) -> Answer {
+fn called(call: u64, argument: u64, h: Hart, mem: &mut [u8], map: &[u64]) -> Answer {
     match call {
-        0 => run_machine::step(h, mem, pages, leaves),
-        1 => run_machine::step_word(h, mem, pages, leaves, (argument % 0x1_0000_0000) as u32),
-        _ => run_machine::run(h, mem, pages, leaves, argument),
+        0 => run_machine::step(h, mem, map),
+        1 => run_machine::step_word(h, mem, map, (argument % 0x1_0000_0000) as u32),
+        _ => run_machine::run(h, mem, map, argument),
     }
 }
 
 // The call, with a map of so many words.
-fn on(n: &[u64], mem: &mut [u8], words: &[u64; MOST], count: usize) -> Answer
+fn on(n: &[u64], mem: &mut [u8], map: &[u64; MOST], count: usize) -> Answer
     requires { count ≤ most }
 {
-    let all = &words[..];
-    let mut pages = [0u32; MOST];
-    let mut leaves = [0u64; MOST];
-    let p = columns::pages(&all[0..count], &mut pages);
-    let l = columns::leaves(&all[0..count], &mut leaves);
+    let all = &map[..];
     called(
         row::at(n, 0),
         row::at(n, 1),
         state::given(n),
         mem,
-        &pages[0..p],
-        &leaves[0..l],
+        &all[0..count],
     )
 }
 

@@ -8,41 +8,31 @@ use test_loops::{calls, chain, doubles, registers};
 mod told;
 
 // One loop: its code stands at the start of memory, and four doublewords of memory from `at` on are compared.
-fn ran(got: &mut [u64; MOST], h: Hart, code: &[u64], pages: &[u32], leaves: &[u64], at: usize) {
+fn ran(got: &mut [u64; MOST], h: Hart, code: &[u64], map: &[u64], at: usize) {
     let mut mem = [0u8; 8192];
     chain::written(&mut mem, code);
-    let r = chain::chained(h, &mut mem, pages, leaves);
+    let r = chain::chained(h, &mut mem, map);
     chain::numbers(got, r, &mem, at);
 }
 
 // One loop, and how it is to end: pairs of a place among the numbers and a number (`chain::wanted`).
-fn lap(
-    name: &[u8],
-    h: Hart,
-    code: &[u64],
-    pages: &[u32],
-    leaves: &[u64],
-    at: usize,
-    pairs: &[u64],
-) {
+fn lap(name: &[u8], h: Hart, code: &[u64], map: &[u64], at: usize, pairs: &[u64]) {
     let mut wanted = [0u64; MOST];
     let mut got = [0u64; MOST];
     chain::wanted(&mut wanted, pairs);
-    ran(&mut got, h, code, pages, leaves, at);
+    ran(&mut got, h, code, map, at);
     told::told(name, &wanted, &got);
 }
 
 fn first() {
     let code = registers::code();
-    let pages = [0u32; 2];
-    let leaves = [0u64; 2];
+    let map = [0u64; 2];
     let pairs = registers::wanted();
     lap(
         b"registers only",
         registers::start(),
         &code,
-        &pages[0..0],
-        &leaves[0..0],
+        &map[0..0],
         0x1000,
         &pairs,
     );
@@ -50,15 +40,13 @@ fn first() {
 
 fn second() {
     let code = doubles::code();
-    let pages = [0u32; 2];
-    let leaves = [0u64; 2];
+    let map = [0u64; 2];
     let pairs = doubles::wanted();
     lap(
         b"loads and stores",
         doubles::start(),
         &code,
-        &pages[0..0],
-        &leaves[0..0],
+        &map[0..0],
         0x1000,
         &pairs,
     );
@@ -66,15 +54,13 @@ fn second() {
 
 fn third() {
     let code = calls::code();
-    let pages = calls::pages();
-    let leaves = calls::leaves();
+    let map = calls::map();
     let pairs = calls::wanted();
     lap(
         b"calls with landing pads and a shadow stack",
         calls::start(),
         &code,
-        &pages,
-        &leaves,
+        &map,
         0x17f0,
         &pairs,
     );

@@ -24,16 +24,10 @@ pub fn code() -> [u64; 9]
 }
 
 // Page 1 is the code (V, X, U and A) at 0x80000000, page 5 the shadow stack (V, W, U, A and D) at 0x80001000.
-pub fn pages() -> [u32; 2]
-    ensures { 2 ≡ length result }
+pub fn map() -> [u64; 4]
+    ensures { 4 ≡ length result }
 {
-    [1, 5]
-}
-
-pub fn leaves() -> [u64; 2]
-    ensures { 2 ≡ length result }
-{
-    [0x8_0000 * 1024 + 0x59, 0x8_0001 * 1024 + 0xd5]
+    [1, 0x8_0000 * 1024 + 0x59, 5, 0x8_0001 * 1024 + 0xd5]
 }
 
 pub fn start() -> Hart

@@ -40,14 +40,14 @@ pub fn written(mem: &mut [u8], code: &[u64]) -> usize
 }
 
 // Runs until one traps.
-pub fn chained(h: Hart, mem: &mut [u8], pages: &[u32], leaves: &[u64]) -> Ran
+pub fn chained(h: Hart, mem: &mut [u8], map: &[u64]) -> Ran
     ensures { length mem.new ≡ length mem.old }
 {
     let mut hart = h;
     let mut steps = 0;
     let mut runs = 0;
     while runs < MOST_RUNS {
-        let a: Answer = run_machine::run(hart, &mut *mem, pages, leaves, BUDGET);
+        let a: Answer = run_machine::run(hart, &mut *mem, map, BUDGET);
         let g = a.hart;
         hart = g;
         steps = num::wrapping_add_u64(steps, a.count);

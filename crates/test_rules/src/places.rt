@@ -14,7 +14,7 @@ use address::control::Control;
 use address_place::{Place, steps};
 use isa::{Kind, Mode};
 use test_lines::line::MOST;
-use test_lines::{columns, row};
+use test_lines::row;
 
 // How many given numbers stand before the words of the map.
 const MAP: usize = 14;
@@ -109,20 +109,12 @@ fn shown(p: Place) -> [u64; 3] {
     }
 }
 
-fn translated(mem: &[u8], n: &[u64], pages: &[u32], leaves: &[u64]) -> Place
+fn translated(mem: &[u8], n: &[u64], map: &[u64]) -> Place
     requires { length mem.now ≤ 2 ^ 20 }
 {
     let k = kind(row::at(n, 0));
     let w = width::of(row::at(n, 1));
-    steps::translate(
-        control(n),
-        k,
-        w,
-        Virtual(row::at(n, 12)),
-        pages,
-        leaves,
-        mem,
-    )
+    steps::translate(control(n), k, w, Virtual(row::at(n, 12)), map, mem)
 }
 
 // The case in a room of bytes, of which memory is the first `len`.
@@ -132,11 +124,7 @@ fn within(n: &[u64], len: usize, room: &mut [u8]) -> Place
     if n.len() < MAP {
         return Place::Fault(0, 0);
     }
-    let mut pages = [0u32; MOST];
-    let mut leaves = [0u64; MOST];
-    let p = columns::pages(&n[MAP..], &mut pages);
-    let l = columns::leaves(&n[MAP..], &mut leaves);
-    translated(&room[0..len], n, &pages[0..p], &leaves[0..l])
+    translated(&room[0..len], n, &n[MAP..])
 }
 
 // 1,048,576 zeros. Whoever has them can be lent nothing that it may write to: the checker takes too long over a long array beside that.

@@ -5,7 +5,6 @@ use mathlib.Core.List.{List}
 use mathlib.Core.Path.{◌≡◌, refl, ap}
 use Prim.Native.Nat.{ℕ}
 use lib.ListN.{length}
-use Rattle.address_page.specs.Map.{Map}
 use Rattle.word.specs.Choice.{pick}
 use Rattle.word.specs.Sum.{sum_of}
 use Rattle.decode.specs.Decode.{decode_of}
@@ -43,7 +42,7 @@ use Rattle.theorem_isolation.specs.Unseen.{Alike}
 use Rattle.theorem_isolation.proofs.Bytes.{load_alike}
 use Rattle.theorem_isolation.proofs.Frames.{Covers, same_place}
 
-module _ (Of : (o : ℕ) → Type 0) (s : Setting) (map : Map) (m n : List ℕ) (A : Alike Of m n) (C : Covers s.control map Of) where
+module _ (Of : (o : ℕ) → Type 0) (s : Setting) (map m n : List ℕ) (A : Alike Of m n) (C : Covers s.control map Of) where
   abbrev c : Control
   c = s.control
 

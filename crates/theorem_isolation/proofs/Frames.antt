@@ -7,7 +7,6 @@ use mathlib.Core.List.{List}
 use mathlib.Core.Path.{◌≡◌, sym, ap}
 use Prim.Native.Nat.{ℕ, ◌+◌, ◌-◌, ◌<◌}
 use lib.ListN.{length}
-use Rattle.address_page.specs.Map.{Map}
 use Rattle.word.proofs.Bools.{both}
 use Rattle.isa.specs.Size.{size_of}
 use Rattle.isa.specs.declared.Width.{Width}
@@ -30,13 +29,13 @@ use Rattle.theorem_origin.specs.Force.{leaf_at}
 use Rattle.theorem_isolation.specs.Unseen.{Taken, Marked, Seen, Alike}
 
 -- every byte of an access that is given a place, in memory of any length, is among these
-abbrev pub Covers : Control → (map : Map) → (Of : (o : ℕ) → Type 0) → Type 0
+abbrev pub Covers : Control → (map : List ℕ) → (Of : (o : ℕ) → Type 0) → Type 0
 Covers c map Of =
     (len : ℕ) (k : Kind) (w : Width) (a : ℕ) (q : Physical) → place_of c k w a map len ≡ At q
     → (i : ℕ) → i < size_of w → Of (q.0 - base + i)
 
 -- and of one that writes, among these
-abbrev pub Writes : Control → (map : Map) → (To : (o : ℕ) → Type 0) → Type 0
+abbrev pub Writes : Control → (map : List ℕ) → (To : (o : ℕ) → Type 0) → Type 0
 Writes c map To =
     (len : ℕ) (k : Kind) (w : Width) (a : ℕ) (q : Physical) → writes k ≡ true → place_of c k w a map len ≡ At q
     → (i : ℕ) → i < size_of w → To (q.0 - base + i)
@@ -47,7 +46,7 @@ Writable c e = Taken c e × ((leaf_of e).w ≡ true)
 
 -- where an access goes hangs on memory by its length alone, so in memories that are alike it goes to one place. (With page tables in memory
 -- it would hang on them too, which would then be among the bytes that are the same.)
-pub same_place : (Of : (o : ℕ) → Type 0) (m n : List ℕ) → Alike Of m n → (c : Control) (k : Kind) (w : Width) (a : ℕ) (map : Map)
+pub same_place : (Of : (o : ℕ) → Type 0) (m n : List ℕ) → Alike Of m n → (c : Control) (k : Kind) (w : Width) (a : ℕ) (map : List ℕ)
     → place_of c k w a map (length m) ≡ place_of c k w a map (length n)
 same_place Of m n A c k w a map = ap (place_of c k w a map) A.long
 
@@ -64,7 +63,7 @@ writable g l Push t H = (both l.w _ (both g.sse _ H.own).1).0
 writable g l Pop t H = absurd (true≢false (sym t))
 writable g l Swap t H = (both l.w _ (both g.sse _ H.own).1).0
 
-module _ (c : Control) (map : Map) (user : c.mode ≡ User) (sv39 : c.sv39 ≡ true) where
+module _ (c : Control) (map : List ℕ) (user : c.mode ≡ User) (sv39 : c.sv39 ≡ true) where
   -- a leaf that granted an access in user mode has its U bit
   user_held : (k : Kind) (e : ℕ) → Held (regime_of c (effective_mode_of c k)) k (leaf_of e) → (leaf_of e).u ≡ true
   user_held k e H =

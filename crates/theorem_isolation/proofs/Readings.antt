@@ -5,24 +5,23 @@ use mathlib.Core.Bool.{Bool, true, false, true≢false}
 use mathlib.Core.List.{List, [], ◌∷◌}
 use mathlib.Core.Logic.{◌↔◌}
 use mathlib.Core.Path.{◌≡◌, refl, sym, ap, subst, ◌∙◌}
-use Prim.Native.Nat.{ℕ, ◌<◌, ◌≤◌}
+use Prim.Native.Nat.{ℕ, ◌*◌, ◌<◌, ◌≤◌}
 use native.Mathlib.Decide.{ℕ_discrete}
 use native.Mathlib.Omega.{arith}
 use lib.ListN.{get_or, length, get_or-eq_default}
 use Rattle.word.proofs.Bools.{both}
 use Rattle.word.proofs.Either.{either}
 use Rattle.address_leaf.specs.Leaf.{leaf_of, has_right_of}
-use Rattle.address_page.proofs.Entries.{entry_at, lookup_stands, entry_found}
-use Rattle.address_page.specs.Map.{Map, lookup_of}
-use Rattle.address_page.specs.Lent.{Lent, lent_map_of, map_refused_of}
+use Rattle.address_page.proofs.Entries.{lookup_stands, entry_found}
+use Rattle.address_page.specs.Map.{lookup_of, map_refused_of}
 use Rattle.address_page.specs.declared.map.Found.TheVariants.{Leaf}
 use Rattle.address.specs.declared.control.Control.{Control}
 use Rattle.address_place.specs.Place.{frame_of}
 use Rattle.step_hart.specs.declared.Hart.{Hart}
-use Rattle.run_call.specs.Call.{Called, run_call_of, run}
+use Rattle.run_call.specs.Call.{Called, run_call_of}
 use Rattle.run_call.specs.declared.Answer.{Answer}
 use Rattle.theorem_origin.specs.Force.{in_force, leaf_at}
-use Rattle.theorem_isolation.specs.Unseen.{Taken, Named, Seen, Alike, Keeps, call_followed, session_of, IsolationStarts}
+use Rattle.theorem_isolation.specs.Unseen.{Taken, Named, Seen, Alike, Keeps, run, call_followed, session_of, IsolationStarts}
 use Rattle.theorem_isolation.proofs.Isolation.{by_step_5}
 
 -- "differ only in frames that are not named": a byte that differs does not lie in a named frame. That is `Alike`'s clause
@@ -47,11 +46,11 @@ pub no_right : (c : Control) (e : ℕ) → has_right_of (leaf_of e) ≡ false �
 no_right c e none t = true≢false (sym (both (has_right_of (leaf_of e)) _ (both (leaf_of e).v _ t.0).1).0 ∙ none)
 
 -- a row of one run
-alone : (budget : ℕ) (h : Hart) (m : List ℕ) (lent : Lent)
-    → ((session_of (run budget ∷ []) h m lent).answers ≡ (run_call_of budget h m lent).answer ∷ [])
-    × ((session_of (run budget ∷ []) h m lent).memory ≡ (run_call_of budget h m lent).memory)
+alone : (budget : ℕ) (h : Hart) (m map : List ℕ)
+    → ((session_of (run budget ∷ []) h m map).answers ≡ (run_call_of budget h m map).answer ∷ [])
+    × ((session_of (run budget ∷ []) h m map).memory ≡ (run_call_of budget h m map).memory)
 unfolding session_of
-alone budget h m lent = go (run_call_of budget h m lent).answer.trapped (run_call_of budget h m lent)
+alone budget h m map = go (run_call_of budget h m map).answer.trapped (run_call_of budget h m map)
   where
     go : (t : Bool) (c : Called)
         → ((call_followed t c (record { answers = []; memory = c.memory })).answers ≡ c.answer ∷ [])
@@ -63,15 +62,15 @@ first_one : (a b : Answer) (l r : List Answer) → (a ∷ l) ≡ (b ∷ r) → a
 first_one a b l r e = cc
 
 -- a single run, of any budget
-pub one_run : (lent : Lent) (h : Hart) (m n : List ℕ) → IsolationStarts Taken lent h m n → (budget : ℕ)
-    → ((run_call_of budget h m lent).answer ≡ (run_call_of budget h n lent).answer)
-    × Alike (Seen Taken (in_force h) (lent_map_of lent)) (run_call_of budget h m lent).memory (run_call_of budget h n lent).memory
-    × Keeps (Seen Taken (in_force h) (lent_map_of lent)) m (run_call_of budget h m lent).memory
-    × Keeps (Seen Taken (in_force h) (lent_map_of lent)) n (run_call_of budget h n lent).memory
-one_run lent h m n S budget =
-    let R = by_step_5 lent h m n S (run budget ∷ []) in
-    let e = alone budget h m lent in
-    let f = alone budget h n lent in (
+pub one_run : (map : List ℕ) (h : Hart) (m n : List ℕ) → IsolationStarts Taken map h m n → (budget : ℕ)
+    → ((run_call_of budget h m map).answer ≡ (run_call_of budget h n map).answer)
+    × Alike (Seen Taken (in_force h) map) (run_call_of budget h m map).memory (run_call_of budget h n map).memory
+    × Keeps (Seen Taken (in_force h) map) m (run_call_of budget h m map).memory
+    × Keeps (Seen Taken (in_force h) map) n (run_call_of budget h n map).memory
+one_run map h m n S budget =
+    let R = by_step_5 map h m n S (run budget ∷ []) in
+    let e = alone budget h m map in
+    let f = alone budget h n map in (
       first_one _ _ _ _ (sym e.0 ∙ (R.answers ∙ f.0)),
       rw (e.1, f.1) at R.named,
       rw e.1 at R.own,
@@ -79,26 +78,26 @@ one_run lent h m n S budget =
     )
 
 -- a frame is named by an entry where it is named by a virtual page, under a map that refusal 3 lets pass
-pub record NamedByPage (Valid : Control → (e : ℕ) → Type 0) (c : Control) (map : Map) (frame : ℕ) : Type 0 where
+pub record NamedByPage (Valid : Control → (e : ℕ) → Type 0) (c : Control) (map : List ℕ) (frame : ℕ) : Type 0 where
   pub page : ℕ
   pub leaf : ℕ
   pub found : lookup_of map page ≡ Leaf leaf
   pub valid : Valid c leaf
   pub names : frame_of leaf ≡ frame
 
-pub by_page : (Valid : Control → (e : ℕ) → Type 0) (c : Control) (lent : Lent) (frame : ℕ) → map_refused_of lent ≡ false
-    → Named Valid c (lent_map_of lent) frame ↔ NamedByPage Valid c (lent_map_of lent) frame
-by_page Valid c lent frame ok = (
+pub by_page : (Valid : Control → (e : ℕ) → Type 0) (c : Control) (map : List ℕ) (frame : ℕ) → map_refused_of map ≡ false
+    → Named Valid c map frame ↔ NamedByPage Valid c map frame
+by_page Valid c map frame ok = (
   (λ N.
       record {
-        page = (entry_at (lent_map_of lent) N.entry).page;
-        leaf = leaf_at (lent_map_of lent) N.entry;
-        found = entry_found lent ok N.entry N.stands;
+        page = get_or map (2 * N.entry) 0;
+        leaf = leaf_at map N.entry;
+        found = entry_found map ok N.entry N.stands;
         valid = N.valid;
         names = N.names;
       }),
   (λ P.
-      let S = lookup_stands (lent_map_of lent) P.page P.leaf P.found in
+      let S = lookup_stands map P.page P.leaf P.found in
       record {
         entry = S.place;
         stands = S.inside;

@@ -5,8 +5,6 @@ use mathlib.Core.List.{List, [], ◌∷◌}
 use mathlib.Core.Path.{◌≡◌, refl, ap, ap₂}
 use Prim.Native.Nat.{ℕ, zero, suc, ◌+◌}
 use lib.Dec.{eqb}
-use Rattle.address_page.specs.Lent.{Lent, lent_map_of}
-use Rattle.address_page.specs.Map.{Map}
 use Rattle.word.specs.Choice.{pick}
 use Rattle.step_effect.specs.declared.Effect.{Effect}
 use Rattle.step_meaning.specs.declared.Source.{Source}
@@ -16,17 +14,14 @@ use Rattle.step_hart.specs.Run as run
 use Rattle.step_hart.specs.Run.{Run, once, run_from}
 use Rattle.step_hart.specs.Step.{apply_of, traps_of, outcome_of, plan_of, step_from}
 use Rattle.step_hart.specs.declared.Hart.{Hart}
-use Rattle.run_call.specs.Call.{Called, refusal_of, run_refusal_of, refused_with, taken_with, step_from_call, run_call_of, Call, step, step_given_word, call_of}
+use Rattle.run_call.specs.Call.{Called, refusal_of, run_refusal_of, refused_with, taken_with, step_from_call, run_call_of}
 use Rattle.run_call.specs.declared.Answer.{Answer}
-use Rattle.theorem_isolation.specs.Unseen.{Alike, Keeps, Session, call_followed, session_of}
-use Rattle.run_call.specs.Call as call
+use Rattle.theorem_isolation.specs.Unseen.{Alike, Keeps, Call, step, step_given_word, call_of, Session, call_followed, session_of}
+use Rattle.theorem_isolation.specs.Unseen as unseen
 use Rattle.theorem_isolation.proofs.Bytes.{keeps_all, keeps_on}
 use Rattle.theorem_isolation.proofs.Steps.{Confined, Left, step_same, step_left, step_confined}
 
-module _ (Of To : (o : ℕ) → Type 0) (lent : Lent) where
-  abbrev map : Map
-  map = lent_map_of lent
-
+module _ (Of To : (o : ℕ) → Type 0) (map : List ℕ) where
   -- two runs, from memories m and n
   pub record Runs (m n : List ℕ) (r s : Run) : Type 0 where
     pub told : (taken_with r).answer ≡ (taken_with s).answer
@@ -82,11 +77,11 @@ module _ (Of To : (o : ℕ) → Type 0) (lent : Lent) where
         record { answer = refl; confined = λ t. C; alike = A; own = keeps_all To m; own' = keeps_all To n }
 
     -- refusals ask the hart, memory's length and the map alone
-    refusal_same : refusal_of h m lent ≡ refusal_of h n lent
+    refusal_same : refusal_of h m map ≡ refusal_of h n map
     unfolding refusal_of
     refusal_same = rw A.long
 
-    run_refusal_same : (budget : ℕ) → run_refusal_of budget h m lent ≡ run_refusal_of budget h n lent
+    run_refusal_same : (budget : ℕ) → run_refusal_of budget h m map ≡ run_refusal_of budget h n map
     unfolding run_refusal_of
     run_refusal_same budget = rw refusal_same
 
@@ -98,20 +93,20 @@ module _ (Of To : (o : ℕ) → Type 0) (lent : Lent) where
         rw (← step_same Of To map source h m n C A)
         (record { told = refl; confined = step_confined Of To map source h m n C A; alike = L.alike; own = L.own; own' = L.own' })
 
-    step_calls : (source : Source) → Calls m n (step_from_call source h m lent) (step_from_call source h n lent)
+    step_calls : (source : Source) → Calls m n (step_from_call source h m map) (step_from_call source h n map)
     unfolding step_from_call
-    step_calls source = rw (← refusal_same) (called (eqb (refusal_of h m lent) 0) (refusal_of h m lent) _ _ (one_step source))
+    step_calls source = rw (← refusal_same) (called (eqb (refusal_of h m map) 0) (refusal_of h m map) _ _ (one_step source))
 
-    run_calls : (budget : ℕ) → Calls m n (run_call_of budget h m lent) (run_call_of budget h n lent)
+    run_calls : (budget : ℕ) → Calls m n (run_call_of budget h m map) (run_call_of budget h n map)
     unfolding run_call_of
     run_calls budget =
         rw (← run_refusal_same budget)
-        (called (eqb (run_refusal_of budget h m lent) 0) (run_refusal_of budget h m lent) _ _ (runs budget Fetch h m n C A))
+        (called (eqb (run_refusal_of budget h m map) 0) (run_refusal_of budget h m map) _ _ (runs budget Fetch h m n C A))
 
-    pub calls : (c : Call) → Calls m n (call_of c h m lent) (call_of c h n lent)
+    pub calls : (c : Call) → Calls m n (call_of c h m map) (call_of c h n map)
     calls step = step_calls Fetch
     calls (step_given_word word) = step_calls (Given word)
-    calls (call.run budget) = run_calls budget
+    calls (unseen.run budget) = run_calls budget
 
   -- two rows of calls
   pub record Sessions (m n : List ℕ) (c d : Session) : Type 0 where
@@ -134,11 +129,11 @@ module _ (Of To : (o : ℕ) → Type 0) (lent : Lent) where
       }
 
   pub sessions : (cs : List Call) (h : Hart) (m n : List ℕ) → Confined Of To map h → Alike Of m n
-      → Sessions m n (session_of cs h m lent) (session_of cs h n lent)
+      → Sessions m n (session_of cs h m map) (session_of cs h n map)
   unfolding session_of
   sessions [] h m n C A = record { answers = refl; alike = A; own = keeps_all To m; own' = keeps_all To n }
   sessions (c ∷ cs) h m n C A =
       let K = calls h m n C A c in
       rw (← K.answer)
-      (going_on (call_of c h m lent).answer.trapped m n (call_of c h m lent) (call_of c h n lent) _ _ refl K
-      (λ t. sessions cs (call_of c h m lent).answer.hart (call_of c h m lent).memory (call_of c h n lent).memory (K.confined t) K.alike))
+      (going_on (call_of c h m map).answer.trapped m n (call_of c h m map) (call_of c h n map) _ _ refl K
+      (λ t. sessions cs (call_of c h m map).answer.hart (call_of c h m map).memory (call_of c h n map).memory (K.confined t) K.alike))

@@ -7,7 +7,6 @@ use mathlib.Core.Path.{◌≡◌, refl, ◌∙◌}
 use Prim.Native.Nat.{ℕ, ◌+◌, ◌-◌, ◌≤◌, ◌<◌}
 use lib.ListN.{length}
 use native.Mathlib.Omega.{arith}
-use Rattle.address_page.specs.Map.{Map}
 use Rattle.isa.specs.Size.{size_of}
 use Rattle.isa.specs.declared.Width.{Width}
 use Rattle.isa.specs.declared.Width.TheVariants.{Double}
@@ -36,7 +35,7 @@ use Rattle.theorem_isolation.proofs.Bytes.{store_alike, store_keeps, keeps_all}
 use Rattle.theorem_isolation.proofs.Frames.{Covers, Writes}
 use Rattle.theorem_isolation.proofs.Effects.{effect_twin}
 
-module _ (Of To : (o : ℕ) → Type 0) (map : Map) where
+module _ (Of To : (o : ℕ) → Type 0) (map : List ℕ) where
   -- a hart in user mode, no access of which reaches a byte but one `Of` these, or writes but `To` those
   pub record Confined (h : Hart) : Type 0 where
     pub user : MODE of h.words ≡ 0

@@ -16,8 +16,6 @@ use Rattle.memory.specs.Extend.{extend_of}
 use Rattle.memory.specs.Refusal as memory
 use Rattle.address_judge.specs.Judge.{judge_of}
 use Rattle.address_page.specs.Map as page
-use Rattle.address_page.specs.Lent as lent
-use Rattle.address_page.specs.Lent.{Lent, Columns}
 use Rattle.address.specs.Align.{aligned_of}
 use Rattle.address.specs.Control as control
 use Rattle.address.specs.Mask.{mask_of, transformed_of}
@@ -35,11 +33,11 @@ use Rattle.csr_setting.specs.Regime.{control_of, shadow_on, pad_on}
 use Rattle.step_hart.specs.Hart.{hart, legal}
 use Rattle.step_hart.specs.Step.{step_from}
 use Rattle.step_hart.specs.declared.Hart.{Hart}
-use Rattle.run_call.specs.Call.{refusal_of, step_from_call, Call, step_given_word, call_of}
+use Rattle.run_call.specs.Call.{refusal_of, step_from_call, step_word_call}
 use Rattle.run_call.specs.declared.Answer.{Answer}
 use Rattle.theorem_origin.specs.Force.{in_force}
-use Rattle.theorem_isolation.specs.Unseen.{Taken, Seen, Alike, session_of, IsolationStarts, Unseen}
-use Rattle.theorem_isolation.proofs.Witness.{front, memory_with, lent₀, map₀, hart₀, with_word, with_reg, alike₀}
+use Rattle.theorem_isolation.specs.Unseen.{Taken, Seen, Alike, Call, step_given_word, session_of, IsolationStarts, Unseen}
+use Rattle.theorem_isolation.proofs.Witness.{front, memory_with, map₀, hart₀, with_word, with_reg, alike₀}
 
 -- ld x6, 0(x3), as a row of one call
 abbrev pub look : List Call
@@ -61,11 +59,11 @@ abbrev pub Agree : Hart → Type 0
 Agree h = Alike (Seen Taken (in_force h) map₀) (memory_with 0xAA) (memory_with 0xBB)
 
 -- these are all
-pub together : (h : Hart) → InUser h → Sv39 h → Agree h → IsolationStarts Taken lent₀ h (memory_with 0xAA) (memory_with 0xBB)
+pub together : (h : Hart) → InUser h → Sv39 h → Agree h → IsolationStarts Taken map₀ h (memory_with 0xAA) (memory_with 0xBB)
 together h user sv39 alike = record { user = user; sv39 = sv39; alike = alike }
 
 abbrev pub Breaks : Hart → Type 0
-Breaks h = Unseen Taken lent₀ h (memory_with 0xAA) (memory_with 0xBB) look → ⊥
+Breaks h = Unseen Taken map₀ h (memory_with 0xAA) (memory_with 0xBB) look → ⊥
 
 -- without user mode: in S, with SUM, a page without U is S's
 abbrev pub supervisor : Hart
@@ -90,8 +88,8 @@ trapped = hart aimed.x (trap_of aimed.words 8 0)
 abbrev pub zeroed : (k : ℕ) → List ℕ
 zeroed k = replicate k 0
 
-abbrev pub lent_above : Lent
-lent_above = Columns (0 ∷ []) (0x200004_d7 ∷ [])
+abbrev pub map_above : List ℕ
+map_above = 0 ∷ 0x200004_d7 ∷ []
 
 abbrev pub hart_above : Hart
 hart_above = with_reg 6 1 (with_reg 3 0 hart₀)
@@ -104,25 +102,25 @@ abbrev pub reading : Hart
 reading = with_reg 3 0x1000 hart₀
 
 record Computed : Type 0 where
-  supervisor_one : sixth (session_of look supervisor (memory_with 0xAA) lent₀).answers ≡ 0xAA
-  supervisor_other : sixth (session_of look supervisor (memory_with 0xBB) lent₀).answers ≡ 0xBB
-  bare_one : sixth (session_of look bare (memory_with 0xAA) lent₀).answers ≡ 0xAA
-  bare_other : sixth (session_of look bare (memory_with 0xBB) lent₀).answers ≡ 0xBB
-  trap_one : (call_of (step_given_word ecall) aimed (memory_with 0xAA) lent₀).answer
+  supervisor_one : sixth (session_of look supervisor (memory_with 0xAA) map₀).answers ≡ 0xAA
+  supervisor_other : sixth (session_of look supervisor (memory_with 0xBB) map₀).answers ≡ 0xBB
+  bare_one : sixth (session_of look bare (memory_with 0xAA) map₀).answers ≡ 0xAA
+  bare_other : sixth (session_of look bare (memory_with 0xBB) map₀).answers ≡ 0xBB
+  trap_one : (step_word_call ecall aimed (memory_with 0xAA) map₀).answer
       ≡ record { refusal = 0; hart = trapped; count = 1; trapped = true; cause = 8 }
-  trap_other : (call_of (step_given_word ecall) aimed (memory_with 0xBB) lent₀).answer
+  trap_other : (step_word_call ecall aimed (memory_with 0xBB) map₀).answer
       ≡ record { refusal = 0; hart = trapped; count = 1; trapped = true; cause = 8 }
-  past_one : sixth (session_of look trapped (memory_with 0xAA) lent₀).answers ≡ 0xAA
-  past_other : sixth (session_of look trapped (memory_with 0xBB) lent₀).answers ≡ 0xBB
+  past_one : sixth (session_of look trapped (memory_with 0xAA) map₀).answers ≡ 0xAA
+  past_other : sixth (session_of look trapped (memory_with 0xBB) map₀).answers ≡ 0xBB
   touched_long : length (memory_with 0xAA) ≡ length touched
-  touched_one : sixth (session_of look reading (memory_with 0xAA) lent₀).answers ≡ 0x1111
-  touched_other : sixth (session_of look reading touched lent₀).answers ≡ 0x1122
-  above_one : sixth (session_of look hart_above (zeroed 8192) lent_above).answers ≡ 0
-  above_other : sixth (session_of look hart_above (zeroed 4096) lent_above).answers ≡ 1
+  touched_one : sixth (session_of look reading (memory_with 0xAA) map₀).answers ≡ 0x1111
+  touched_other : sixth (session_of look reading touched map₀).answers ≡ 0x1122
+  above_one : sixth (session_of look hart_above (zeroed 8192) map_above).answers ≡ 0
+  above_other : sixth (session_of look hart_above (zeroed 4096) map_above).answers ≡ 1
 
 computed : Computed
-unfolding session_of step_from_call refusal_of legal words_legal memory.memory_refused_of lent.map_refused_of lent.any_large
-    lent.strictly_rise step_from effect_of fetched_of arrived_of landed_of execute_of decode_of base.decode_load_of system.system_of access_of passed_of at_of done_of
+unfolding session_of step_from_call refusal_of legal words_legal memory.memory_refused_of page.map_refused_of page.pages_of page.any_large page.rise_from
+    page.strictly_rise step_from effect_of fetched_of arrived_of landed_of execute_of decode_of base.decode_load_of system.system_of access_of passed_of at_of done_of
     place_of reached_of control.effective_mode_of transformed_of mask_of aligned_of paged_place_of plain_place_of through_of page.lookup_of settle_of judge_of inside_of
     within_of setting_of control_of shadow_on pad_on mode_of memory_with front bytes_of number load_of store_of extend_of trap_of trap_m enter_m_of
 computed = record {
@@ -160,9 +158,9 @@ needs_sv39 = (
 -- "Up to and including the first trap": from a start that meets all, one step traps, with one answer in both memories; a step from the hart that
 -- it leaves breaks it
 pub needs-stop :
-    IsolationStarts Taken lent₀ aimed (memory_with 0xAA) (memory_with 0xBB)
-    × ((call_of (step_given_word ecall) aimed (memory_with 0xAA) lent₀).answer ≡ record { refusal = 0; hart = trapped; count = 1; trapped = true; cause = 8 })
-    × ((call_of (step_given_word ecall) aimed (memory_with 0xBB) lent₀).answer ≡ record { refusal = 0; hart = trapped; count = 1; trapped = true; cause = 8 })
+    IsolationStarts Taken map₀ aimed (memory_with 0xAA) (memory_with 0xBB)
+    × ((step_word_call ecall aimed (memory_with 0xAA) map₀).answer ≡ record { refusal = 0; hart = trapped; count = 1; trapped = true; cause = 8 })
+    × ((step_word_call ecall aimed (memory_with 0xBB) map₀).answer ≡ record { refusal = 0; hart = trapped; count = 1; trapped = true; cause = 8 })
     × Breaks trapped
 needs-stop = (
   together aimed refl refl (alike₀ (in_force aimed)),
@@ -181,7 +179,7 @@ zeros k o =
 pub needs-length :
     InUser hart_above × Sv39 hart_above
     × ((o : ℕ) → get_or (zeroed 8192) o 0 ≡ get_or (zeroed 4096) o 0)
-    × (Unseen Taken lent_above hart_above (zeroed 8192) (zeroed 4096) look → ⊥)
+    × (Unseen Taken map_above hart_above (zeroed 8192) (zeroed 4096) look → ⊥)
 needs-length = (
   refl,
   refl,
@@ -192,7 +190,7 @@ needs-length = (
 -- "that differ only in frames that no valid entry with its U bit names"
 pub needs-agreement :
     InUser reading × Sv39 reading × (length (memory_with 0xAA) ≡ length touched)
-    × (Unseen Taken lent₀ reading (memory_with 0xAA) touched look → ⊥)
+    × (Unseen Taken map₀ reading (memory_with 0xAA) touched look → ⊥)
 needs-agreement = (
   refl,
   refl,

@@ -18,9 +18,6 @@ use Rattle.memory.specs.Extend.{extend_of}
 use Rattle.memory.specs.Refusal as memory
 use Rattle.address_judge.specs.Judge.{judge_of}
 use Rattle.address_page.specs.Map as page
-use Rattle.address_page.specs.Map.{Map}
-use Rattle.address_page.specs.Lent as lent
-use Rattle.address_page.specs.Lent.{Lent, Columns, lent_map_of}
 use Rattle.address.specs.Align.{aligned_of}
 use Rattle.address.specs.Control as control
 use Rattle.address.specs.Mask.{mask_of, transformed_of}
@@ -41,15 +38,14 @@ use Rattle.csr_words.specs.Trap.{trap_of}
 use Rattle.step_effect.specs.Register.{put_of}
 use Rattle.csr_setting.specs.Regime.{control_of, shadow_on, pad_on}
 use Rattle.step_hart.specs.Hart.{hart, legal, start_of}
-use Rattle.step_hart.proofs.Turns.{stayed}
-use Rattle.step_hart.specs.Run.{Run, after, once, run_from, run_of}
+use Rattle.step_hart.specs.Run.{Run, after, stayed, once, run_from, run_of}
 use Rattle.step_hart.specs.Step.{outcome_of, plan_of, step_from}
 use Rattle.step_hart.specs.declared.Hart.{Hart}
-use Rattle.run_call.specs.Call.{refusal_of, run_refusal_of, taken_with, run_call_of, run}
+use Rattle.run_call.specs.Call.{refusal_of, run_refusal_of, taken_with, run_call_of}
 use Rattle.run_call.specs.declared.Answer.{Answer}
 use Rattle.theorem_origin.specs.Force.{in_force, leaf_at, Entry}
 use Rattle.step_hart.proofs.Longer.{run_longer}
-use Rattle.theorem_isolation.specs.Unseen.{Taken, Marked, Seen, Alike, session_of, IsolationStarts}
+use Rattle.theorem_isolation.specs.Unseen.{Taken, Marked, Seen, Alike, run, session_of, IsolationStarts}
 use Rattle.theorem_isolation.proofs.Isolation.{by_step_5}
 
 -- ld x5, 0(x2); sd x5, 8(x2); ld x6, 0(x3)
@@ -66,17 +62,13 @@ memory_with secret = front ++ secret ∷ replicate 4095 0
 
 -- page 0 is frame 0x80000 with V, X, U and A; page 1 is frame 0x80001 with V, R, W, U, A and D; page 2 is frame 0x80002, the other
 -- supplier's, with V, R, W, A and D and without U
-abbrev pub three : Lent
-three = Columns (0 ∷ 1 ∷ 2 ∷ []) (0x20000059 ∷ 0x200004_d7 ∷ 0x200008_c7 ∷ [])
+abbrev pub pages : List ℕ
+pages = 0 ∷ 0x20000059 ∷ 1 ∷ 0x200004_d7 ∷ 2 ∷ 0x200008_c7 ∷ []
 
 -- and the odd ones: page 3 is frame 0x90000, outside memory, with V, R, W, U, A and D; page 4 is frame 0x80001 once more, without U;
 -- page 5 is the other supplier's frame with V and U, and no right
-abbrev pub lent₀ : Lent
-lent₀ =
-    Columns (0 ∷ 1 ∷ 2 ∷ 3 ∷ 4 ∷ 5 ∷ []) (0x20000059 ∷ 0x200004_d7 ∷ 0x200008_c7 ∷ 0x240000_d7 ∷ 0x200004_c7 ∷ 0x20000811 ∷ [])
-
-abbrev pub map₀ : Map
-map₀ = lent_map_of lent₀
+abbrev pub map₀ : List ℕ
+map₀ = 0 ∷ 0x20000059 ∷ 1 ∷ 0x200004_d7 ∷ 2 ∷ 0x200008_c7 ∷ 3 ∷ 0x240000_d7 ∷ 4 ∷ 0x200004_c7 ∷ 5 ∷ 0x20000811 ∷ []
 
 -- in user mode with Sv39; x2 is page 1, x3 page 2
 abbrev pub hart₀ : Hart
@@ -137,11 +129,11 @@ alike₀ c = record {
 }
 
 -- the hypotheses
-pub starts : IsolationStarts Taken lent₀ hart₀ (memory_with 0xAA) (memory_with 0xBB)
+pub starts : IsolationStarts Taken map₀ hart₀ (memory_with 0xAA) (memory_with 0xBB)
 starts = record { user = refl; sv39 = refl; alike = alike₀ (in_force hart₀) }
 
 -- by the bits alone page 5 names the other supplier's frame, and then the memories may not differ there
-pub not_by_bits : IsolationStarts Marked lent₀ hart₀ (memory_with 0xAA) (memory_with 0xBB) → ⊥
+pub not_by_bits : IsolationStarts Marked map₀ hart₀ (memory_with 0xAA) (memory_with 0xBB) → ⊥
 not_by_bits S =
     omega (
       arith,
@@ -150,14 +142,14 @@ not_by_bits S =
     )
 
 -- where no such page stands in the map, they may
-marked_below : (o : ℕ) (i : ℕ) → Entry (lent_map_of three) i → Marked (in_force hart₀) (leaf_at (lent_map_of three) i) → frame_of (leaf_at (lent_map_of three) i) ≡ (place.base + o) / 4096
+marked_below : (o : ℕ) (i : ℕ) → Entry pages i → Marked (in_force hart₀) (leaf_at pages i) → frame_of (leaf_at pages i) ≡ (place.base + o) / 4096
     → get_or (memory_with 0xAA) o 0 ≡ get_or (memory_with 0xBB) o 0
 marked_below o zero s t f = same_below o (omega (arith, f))
 marked_below o (suc zero) s t f = same_below o (omega (arith, f))
 marked_below o (suc (suc zero)) s t f = absurd (false≢true t.1)
 marked_below o (suc (suc (suc i))) s t f = absurd (omega (arith, s))
 
-pub starts_by_bits : IsolationStarts Marked three hart₀ (memory_with 0xAA) (memory_with 0xBB)
+pub starts_by_bits : IsolationStarts Marked pages hart₀ (memory_with 0xAA) (memory_with 0xBB)
 starts_by_bits = record {
   user = refl;
   sv39 = refl;
@@ -184,7 +176,7 @@ stored secret = store_of (memory_with secret) 0x1008 8 0x1111
 -- what each step does, computed in the one memory; and what an access through an odd page does: outside memory it is an access fault;
 -- without U, or without a right, a page fault, whatever else names the frame
 pub record Computed : Type 0 where
-  pub accepted : refusal_of hart₀ (memory_with 0xAA) lent₀ ≡ 0
+  pub accepted : refusal_of hart₀ (memory_with 0xAA) map₀ ≡ 0
   pub first : plan_of Fetch hart₀ (memory_with 0xAA) map₀ ≡ Write 5 0x1111 4
   pub second : plan_of Fetch hart₁ (memory_with 0xAA) map₀ ≡ Store (record { 0 = 0x80001008 }) Double 0x1111 8
   pub third : plan_of Fetch hart₂ (stored 0xAA) map₀ ≡ Trap 13 0x2000
@@ -193,7 +185,7 @@ pub record Computed : Type 0 where
   pub pointer : plan_of (Given 0x0001_b303) (with_reg 3 0x5000 hart₀) (memory_with 0xAA) map₀ ≡ Trap 13 0x5000
 
 pub computed : Computed
-unfolding refusal_of legal words_legal memory.memory_refused_of lent.map_refused_of lent.any_large lent.strictly_rise effect_of fetched_of
+unfolding refusal_of legal words_legal memory.memory_refused_of page.map_refused_of page.pages_of page.any_large page.rise_from page.strictly_rise effect_of fetched_of
     arrived_of landed_of execute_of decode_of base.decode_load_of base.decode_store_of access_of passed_of at_of done_of place_of reached_of control.effective_mode_of transformed_of
     mask_of aligned_of paged_place_of through_of page.lookup_of settle_of judge_of inside_of within_of setting_of control_of shadow_on pad_on mode_of memory_with
     front bytes_of number load_of store_of extend_of
@@ -222,7 +214,7 @@ ran₃ : steps 3 ≡ record { hart = hart₃; memory = stored 0xAA; count = 3; t
 ran₃ = further 2 _ _ ran₂ refl computed.third
 
 -- a call with a budget of 3
-pub called : run_call_of 3 hart₀ (memory_with 0xAA) lent₀
+pub called : run_call_of 3 hart₀ (memory_with 0xAA) map₀
     ≡ taken_with (record { hart = hart₃; memory = stored 0xAA; count = 3; trapped = true; cause = 13 })
 unfolding run_call_of run_refusal_of
 called = rw computed.accepted (ap taken_with ran₃)
@@ -231,27 +223,27 @@ called = rw computed.accepted (ap taken_with ran₃)
 abbrev pub answer₃ : Answer
 answer₃ = record { refusal = 0; hart = hart₃; count = 3; trapped = true; cause = 13 }
 
-pub one_answer : (session_of (run 3 ∷ []) hart₀ (memory_with 0xAA) lent₀).answers ≡ answer₃ ∷ []
+pub one_answer : (session_of (run 3 ∷ []) hart₀ (memory_with 0xAA) map₀).answers ≡ answer₃ ∷ []
 unfolding session_of
 one_answer = rw called
 
 -- and the memory that it leaves
-pub one_memory : (session_of (run 3 ∷ []) hart₀ (memory_with 0xAA) lent₀).memory ≡ stored 0xAA
+pub one_memory : (session_of (run 3 ∷ []) hart₀ (memory_with 0xAA) map₀).memory ≡ stored 0xAA
 unfolding session_of
 one_memory = rw called
 
 -- in the other memory the theorem, and not the computation, gives the answer
-pub same_answer : (session_of (run 3 ∷ []) hart₀ (memory_with 0xBB) lent₀).answers ≡ answer₃ ∷ []
-same_answer = sym (by_step_5 lent₀ hart₀ (memory_with 0xAA) (memory_with 0xBB) starts (run 3 ∷ [])).answers ∙ one_answer
+pub same_answer : (session_of (run 3 ∷ []) hart₀ (memory_with 0xBB) map₀).answers ≡ answer₃ ∷ []
+same_answer = sym (by_step_5 map₀ hart₀ (memory_with 0xAA) (memory_with 0xBB) starts (run 3 ∷ [])).answers ∙ one_answer
 
 -- what the run stored
 stored_byte : get_or (stored 0xAA) 0x1008 0 ≡ 0x11
 unfolding memory_with front bytes_of store_of
 stored_byte = refl
 
-pub same_byte : get_or (session_of (run 3 ∷ []) hart₀ (memory_with 0xBB) lent₀).memory 0x1008 0 ≡ 0x11
+pub same_byte : get_or (session_of (run 3 ∷ []) hart₀ (memory_with 0xBB) map₀).memory 0x1008 0 ≡ 0x11
 same_byte =
-    sym ((by_step_5 lent₀ hart₀ (memory_with 0xAA) (memory_with 0xBB) starts (run 3 ∷ [])).named.bytes 0x1008
+    sym ((by_step_5 map₀ hart₀ (memory_with 0xAA) (memory_with 0xBB) starts (run 3 ∷ [])).named.bytes 0x1008
     (record { entry = 1; stands = omega arith; valid = (refl, refl); names = refl }))
     ∙ (ap (λ (m : List ℕ). get_or m 0x1008 0) one_memory ∙ stored_byte)
 
@@ -259,6 +251,6 @@ same_byte =
 hidden : Seen Taken (in_force hart₀) map₀ 0x2000 → ⊥
 hidden N = omega (arith, sym (secret_at 0xAA) ∙ (starts.alike.bytes 0x2000 N ∙ secret_at 0xBB))
 
-pub kept_secret : get_or (session_of (run 3 ∷ []) hart₀ (memory_with 0xBB) lent₀).memory 0x2000 0 ≡ 0xBB
+pub kept_secret : get_or (session_of (run 3 ∷ []) hart₀ (memory_with 0xBB) map₀).memory 0x2000 0 ≡ 0xBB
 kept_secret =
-    (by_step_5 lent₀ hart₀ (memory_with 0xAA) (memory_with 0xBB) starts (run 3 ∷ [])).own'.bytes 0x2000 hidden ∙ secret_at 0xBB
+    (by_step_5 map₀ hart₀ (memory_with 0xAA) (memory_with 0xBB) starts (run 3 ∷ [])).own'.bytes 0x2000 hidden ∙ secret_at 0xBB

@@ -1,15 +1,16 @@
 -- The entry behind an access that goes by the map and is given a place: one of the map's, whose leaf is a page's and has granted the access.
 -- Assumes nothing.
 use mathlib.Core.Bool.{true}
+use mathlib.Core.List.{List}
 use mathlib.Core.Path.{◌≡◌, sym, subst}
 use Prim.Native.Nat.{ℕ, ◌+◌, ◌-◌, ◌*◌, ◌/◌, ◌%◌, ◌≤◌, ◌<◌}
+use lib.ListN.{get_or}
 use native.Mathlib.Omega.{arith}
-use Rattle.address_page.specs.Map.{Map}
 use Rattle.isa.specs.Size.{size_of}
 use Rattle.isa.specs.declared.Width.{Width}
 use Rattle.address_leaf.specs.Leaf.{leaf_of}
 use Rattle.address_judge.proofs.Grants.{Held, held}
-use Rattle.address_page.proofs.Entries.{entry_at, lookup_stands}
+use Rattle.address_page.proofs.Entries.{lookup_stands}
 use Rattle.isa.specs.declared.Kind.{Kind}
 use Rattle.address.specs.Control.{effective_mode_of, paged_of, regime_of}
 use Rattle.address.specs.Mask.{transformed_of}
@@ -21,10 +22,10 @@ use Rattle.address_place.specs.declared.Place.TheVariants.{At}
 use Rattle.theorem_origin.specs.Force.{leaf_at, Entry, ValidLeaf}
 
 -- t is the transformed address
-pub record Behind (c : Control) (k : Kind) (w : Width) (t : ℕ) (map : Map) (len : ℕ) (q : Physical) : Type 0 where
+pub record Behind (c : Control) (k : Kind) (w : Width) (t : ℕ) (map : List ℕ) (len : ℕ) (q : Physical) : Type 0 where
   pub entry : ℕ
   pub stands : Entry map entry
-  pub number : (entry_at map entry).page ≡ page_number t
+  pub number : get_or map (2 * entry) 0 ≡ page_number t
   pub canonical : canonical_of t ≡ true
   pub held : Held (regime_of c (effective_mode_of c k)) k (leaf_of (leaf_at map entry))
   pub valid : ValidLeaf c (leaf_at map entry)
@@ -35,7 +36,7 @@ pub record Behind (c : Control) (k : Kind) (w : Width) (t : ℕ) (map : Map) (le
 in_frame : (q n i f t : ℕ) → base ≤ q → q ≡ f * 4096 + t % 4096 → t % 4096 + n ≤ 4096 → i < n → f ≡ (base + (q - base + i)) / 4096
 in_frame q n i f t b e l u = omega arith
 
-module _ (c : Control) (k : Kind) (w : Width) (a : ℕ) (map : Map) (len : ℕ) (q : Physical)
+module _ (c : Control) (k : Kind) (w : Width) (a : ℕ) (map : List ℕ) (len : ℕ) (q : Physical)
     (at : place_of c k w a map len ≡ At q) (paged : paged_of (effective_mode_of c k) c.sv39 ≡ true) where
   pub behind : Behind c k w (transformed_of c (effective_mode_of c k) k a) map len q
   behind =

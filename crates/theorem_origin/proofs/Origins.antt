@@ -10,7 +10,6 @@ use lib.Dec.{eqb}
 use lib.ListN.{length}
 use native.Mathlib.Omega.{arith}
 use borrow.Author.Tests.{eqb-true}
-use Rattle.address_page.specs.Map.{Map}
 use Rattle.word.specs.Choice.{pick}
 use Rattle.word.specs.Sum.{sum_of}
 use Rattle.decode.specs.Decode.{decode_of}
@@ -40,8 +39,7 @@ use Rattle.csr_access.specs.declared.reach.Reached.{Reached}
 use Rattle.csr_access.specs.declared.reach.Reached.TheVariants as reached
 use Rattle.step_transfer.specs.Access.{gate_of_instruction, address_of, read_of, popped_of, done_of, at_of, passed_of, access_of}
 use Rattle.step_effect.specs.Compute.{condition_of}
-use Rattle.step_effect.specs.Csrs.{csr_reached_of, csr_effect_of, writes_of}
-use Rattle.isa.specs.Cases.{source_of}
+use Rattle.step_effect.specs.Csrs.{csr_reached_of, csr_effect_of, writes_of, field_of}
 use Rattle.step_meaning.specs.Instruction.{next_of, execute_of}
 use Rattle.step_effect.specs.Jump.{even_of, jal_of, jalr_of, branch_of}
 use Rattle.step_meaning.specs.Plan.{fetched_of, is_pad_of, landed_of, arrived_of, effect_of}
@@ -66,7 +64,7 @@ use Rattle.theorem_origin.specs.Force.{in_force}
 
 -- an instruction that accesses memory and is given the place q: the word that the step fetches or is given is one, no landing pad check is
 -- made, the instruction is on and legal, and its access is permitted, at q
-pub record AccessStep (source : Source) (h : Hart) (m : List ℕ) (map : Map) (k : Access) (q : Physical) : Type 0 where
+pub record AccessStep (source : Source) (h : Hart) (m map : List ℕ) (k : Access) (q : Physical) : Type 0 where
   pub word : ℕ
   pub rd : ℕ
   pub rs1 : ℕ
@@ -79,16 +77,16 @@ pub record AccessStep (source : Source) (h : Hart) (m : List ℕ) (map : Map) (k
   pub place : place_of (in_force h) (kind_of k) (width_of k) (address_of k (sum_of (reg_of h.x rs1) off) (SSP of h.words)) map (length m) ≡ At q
 
 -- a CSR instruction that names the CSR n, and whether it writes
-pub record CsrStep (source : Source) (h : Hart) (m : List ℕ) (map : Map) (o : CsrOperation) (n : csr.Csr) (writes : Bool) (rd : ℕ) : Type 0 where
+pub record CsrStep (source : Source) (h : Hart) (m map : List ℕ) (o : CsrOperation) (n : csr.Csr) (writes : Bool) (rd : ℕ) : Type 0 where
   pub word : ℕ
   pub from : CsrSource
   pub address : ℕ
   pub arrives : fetched_of source (in_force h) (PC of h.words) m map ≡ fetched.Word word
   pub reads : decode_of word ≡ Csr o from rd address
   pub names : reach_of (in_force h).mode (setting_of h.words).permitted address ≡ reached.To n
-  pub wrote : writes ≡ writes_of o (source_of from)
+  pub wrote : writes ≡ writes_of o (field_of from)
 
-module _ (source : Source) (h : Hart) (m : List ℕ) (map : Map) where
+module _ (source : Source) (h : Hart) (m map : List ℕ) where
   abbrev s : Setting
   s = setting_of h.words
 

@@ -7,7 +7,6 @@ use Prim.Native.Nat.{ℕ, ◌/◌, ◌^◌}
 use lib.ListN.{length, length-set}
 use lib.Seq.{get_or-set_other}
 use borrow.Author.Tests.{eq-eqb}
-use Rattle.address_page.specs.Map.{Map}
 use Rattle.isa.specs.declared.CsrOperation.{CsrOperation}
 use Rattle.isa.specs.declared.Kind.{Kind}
 use Rattle.isa.specs.declared.Kind.TheVariants.{Fetch, Load, Store, Push, Pop, Swap}
@@ -84,7 +83,7 @@ put k n on {w} {v} s = record {
   kept = λ j off. get_or-set_other v k j n 0 (λ e. true≢false (sym on ∙ (ap moves (sym e) ∙ off))) ∙ s.kept j off;
 }
 
-module _ (source : Source) (h : Hart) (m : List ℕ) (map : Map) (user : (in_force h).mode ≡ User) where
+module _ (source : Source) (h : Hart) (m map : List ℕ) (user : (in_force h).mode ≡ User) where
   abbrev to : (next : ℕ) → Same h.words (h.words but PC ≔ next)
   to next = put PC next refl (same h.words)
 

@@ -1,22 +1,16 @@
 -- What a push does to memory, byte by byte.
 -- Assumes nothing.
-use mathlib.Core.Bool.{◌&&◌}
 use mathlib.Core.List.{List}
 use mathlib.Core.Path.{◌≡◌, sym, ap, ◌∙◌}
 use Prim.Native.Nat.{ℕ, zero, suc, ◌+◌, ◌-◌, ◌/◌, ◌%◌, ◌^◌, ◌≤◌, ◌<◌}
 use native.Mathlib.Omega.{arith}
 use borrow.Author.Tests.{lt-ltb, le-ltb, le-leb, lt-leb}
-use lib.Dec.{leb, ltb}
 use lib.ListN.{get_or, length}
-use Rattle.word.specs.Choice.{pick}
 use Rattle.word.proofs.Either.{either}
 use Rattle.memory.proofs.Stores.{byte_before, byte_in, byte_after_lem}
 use Rattle.memory.specs.Bytes.{store_of}
 use Rattle.address_place.specs.Place.{base}
-
--- byte o after a push of v at a physical address, which wrote eight bytes, the lowest first; else what it was before
-abbrev pub wrote_of : (at v o before : ℕ) → ℕ
-wrote_of at v o before = pick (leb at (base + o) && ltb (base + o) (at + 8)) (v / 256 ^ (base + o - at) % 256) before
+use Rattle.theorem_shadow.specs.Promise.{wrote_of}
 
 -- the eight bytes of v are those of its 64 bits
 byte_64 : (v i : ℕ) → i < 8 → v % 2 ^ 64 / 256 ^ i % 256 ≡ v / 256 ^ i % 256

@@ -11,8 +11,6 @@ use lib.Dec.{eqb}
 use lib.ListN.{get_or, length}
 use native.Mathlib.Omega.{arith}
 use borrow.Author.Tests.{eqb-true, eqb-false, not-false}
-use Rattle.address_page.specs.Lent.{Lent, lent_map_of}
-use Rattle.address_page.specs.Map.{Map}
 use Rattle.word.proofs.Bools.{both}
 use Rattle.word.specs.Choice.{pick}
 use Rattle.word.specs.Sum.{sum_of}
@@ -47,7 +45,7 @@ use Rattle.theorem_shadow.proofs.Steps.{slot, as_at_start, Holds, step_left}
 use Rattle.theorem_shadow.proofs.Ties.{check_does}
 
 -- what is enough for the proof
-pub record Enough (map : Map) (h₀ : Hart) (m₀ : List ℕ) : Type 0 where
+pub record Enough (map : List ℕ) (h₀ : Hart) (m₀ : List ℕ) : Type 0 where
   pub size : length h₀.words ≡ COUNT
   pub eight : SSP of h₀.words % 8 ≡ 0
   pub user : MODE of h₀.words ≡ 0
@@ -71,14 +69,14 @@ unfolding setting_of control_of shadow_on mode_of
 on_in_user h u m s = rw (u, m, s)
 
 -- a permitted pop-check is one to a shadow page, so menvcfg's enable is on
-permitted_sse : (h : Hart) (m : List ℕ) (map : Map) (q : Physical) → Permitted h m map q → (in_force h).sse ≡ true
+permitted_sse : (h : Hart) (m map : List ℕ) (q : Physical) → Permitted h m map q → (in_force h).sse ≡ true
 permitted_sse h m map q e =
     let c : Control = in_force h in
     let a : ℕ = SSP of h.words in
     let p = place_paged c kind.Pop Double a map (length m) q e (shadow_paged c kind.Pop Double a map (length m) q e refl) in
     (both c.sse _ (shadow_on_shadow c kind.Pop Double a map (length m) q e refl p.leaf p.entry)).0
 
-module _ (map : Map) (h₀ : Hart) (m₀ : List ℕ) (N : Enough map h₀ m₀) where
+module _ (map : List ℕ) (h₀ : Hart) (m₀ : List ℕ) (N : Enough map h₀ m₀) where
   abbrev G : Geometry (slot map h₀ m₀) (Shadow (in_force h₀) map) (length m₀)
   G = geometry (in_force h₀) map (length m₀) (in_user h₀ N.user) N.sv39 N.once
 
@@ -116,9 +114,9 @@ module _ (map : Map) (h₀ : Hart) (m₀ : List ℕ) (N : Enough map h₀ m₀) 
       record { pointer = I.pointer; bytes = I.bytes; checks = λ f. checked es h m (on f) I }
 
 -- what the user's words give is enough
-enough : (lent : Lent) (h₀ : Hart) (m₀ : List ℕ) → ShadowStarts lent h₀ m₀ → Enough (lent_map_of lent) h₀ m₀
-enough lent h₀ m₀ S =
-    let L = (lawful_hart h₀ (not-false (legal h₀) (no_refusal h₀ m₀ lent S.accepted).0)).words in
+enough : (map : List ℕ) (h₀ : Hart) (m₀ : List ℕ) → ShadowStarts map h₀ m₀ → Enough map h₀ m₀
+enough map h₀ m₀ S =
+    let L = (lawful_hart h₀ (not-false (legal h₀) (no_refusal h₀ m₀ map S.accepted).0)).words in
     record {
       size = L.size;
       eight = ssp_eight h₀.words L;
@@ -130,4 +128,4 @@ enough lent h₀ m₀ S =
 
 -- the theorem
 pub shadow_stack : ShadowClaim
-shadow_stack lent h₀ m₀ S es h m trapped r = promised (lent_map_of lent) h₀ m₀ (enough lent h₀ m₀ S) es h m trapped r
+shadow_stack map h₀ m₀ S es h m trapped r = promised map h₀ m₀ (enough map h₀ m₀ S) es h m trapped r

@@ -19,8 +19,8 @@ use Rattle.address_place.specs.declared.Physical.{Physical}
 use Rattle.address_place.specs.declared.Place.{Place}
 use Rattle.address_place.specs.declared.Place.TheVariants.{At}
 use Rattle.step_transfer.specs.Access.{read_of}
-use Rattle.theorem_shadow.specs.Promise.{Event, pushed, popped, quiet, pushes, pops, Moved, latest, unmatched}
-use Rattle.theorem_shadow.proofs.Bytes.{wrote_of, written}
+use Rattle.theorem_shadow.specs.Promise.{Event, pushed, popped, quiet, pushes, pops, Moved, wrote_of, latest, unmatched}
+use Rattle.theorem_shadow.proofs.Bytes.{written}
 use Rattle.theorem_shadow.proofs.Geometry.{Geometry}
 
 -- a pop and a push move the pointer as they should

@@ -3,11 +3,11 @@
 -- Assumes nothing.
 use mathlib.Core.Path.{◌≡◌, refl, sym, ◌∙◌, ap}
 use mathlib.Core.Bool.{true, false, true≢false}
+use mathlib.Core.List.{List}
 use mathlib.Core.Logic.{◌⊎◌, inl, inr}
 use Prim.Native.Nat.{ℕ, ◌+◌, ◌*◌, ◌/◌, ◌%◌, ◌≤◌, ◌<◌}
 use native.Mathlib.Omega.{arith}
 use borrow.Author.Tests.{le-leb, not-true}
-use Rattle.address_page.specs.Map.{Map}
 use Rattle.word.proofs.Bools.{both}
 use Rattle.word.proofs.Either.{either}
 use Rattle.isa.specs.Size.{size_of}
@@ -41,14 +41,14 @@ unfolding inside_of within_of
 within k w len p t q e i = rw (← e, le-leb base q.0 i.0, le-leb (q.0 + size_of w) (base + len) i.1)
 
 -- every test of steps 5 to 9 holds, so they give the place
-through : (g : Regime) (k : Kind) (w : Width) (t : ℕ) (map : Map) (len : ℕ) (q : Physical) → Paged g k w t map len q
+through : (g : Regime) (k : Kind) (w : Width) (t : ℕ) (map : List ℕ) (len : ℕ) (q : Physical) → Paged g k w t map len q
     → paged_place_of g k w t map len ≡ At q
 unfolding paged_place_of through_of settle_of
 through g k w t map len q P =
     rw (P.canonical, P.entry, P.granted) (within k w len (physical_of P.leaf t) t q P.frame P.within)
 
 -- and so do steps 3 to 9 where the access is aligned and paged
-reached : (c : Control) (m : Mode) (k : Kind) (w : Width) (t : ℕ) (map : Map) (len : ℕ) (q : Physical) → t % size_of w ≡ 0
+reached : (c : Control) (m : Mode) (k : Kind) (w : Width) (t : ℕ) (map : List ℕ) (len : ℕ) (q : Physical) → t % size_of w ≡ 0
     → paged_of m c.sv39 ≡ true → Paged (regime_of c m) k w t map len q → reached_of c m k w t map len ≡ At q
 unfolding reached_of aligned_of
 reached c m k w t map len q a p P = rw (a, p) (through (regime_of c m) k w t map len q P)
@@ -66,7 +66,7 @@ pop_granted : (g : Regime) (l : leaf.Leaf) → judge_of g kind.Push l ≡ Grante
 pop_granted g l e = granted g l kind.Pop (pop_held g l (held g l kind.Push e))
 
 -- where a push may store, a pop-check may read
-pub push_pop : (c : Control) (w : Width) (a : ℕ) (map : Map) (len : ℕ) (q : Physical)
+pub push_pop : (c : Control) (w : Width) (a : ℕ) (map : List ℕ) (len : ℕ) (q : Physical)
     → place_of c kind.Push w a map len ≡ At q → place_of c kind.Pop w a map len ≡ At q
 unfolding place_of effective_mode_of transformed_of
 push_pop c w a map len q e =
@@ -88,12 +88,12 @@ beside q n f t b g e l h d =
     either b q (λ x. inl x) (λ x. either b (q + n) (λ y. absurd (d (omega arith))) (λ y. inr y))
 
 -- an entry with the frame of a valid shadow page is that page's
-pub one_entry : (c : Control) (map : Map) → StandsOnce c map → (i j : ℕ) → Entry map i → Entry map j
+pub one_entry : (c : Control) (map : List ℕ) → StandsOnce c map → (i j : ℕ) → Entry map i → Entry map j
     → ValidShadow c (leaf_at map i) → ValidLeaf c (leaf_at map j) → frame_of (leaf_at map j) ≡ frame_of (leaf_at map i) → j ≡ i
 one_entry c map once i j p q v w f = once i j p q v w f
 
 -- so the entry of a page that is no shadow page has another frame
-other_frame : (c : Control) (map : Map) → StandsOnce c map → (i : ℕ) → Entry map i → ValidLeaf c (leaf_at map i)
+other_frame : (c : Control) (map : List ℕ) → StandsOnce c map → (i : ℕ) → Entry map i → ValidLeaf c (leaf_at map i)
     → shadow_page_of c.sse (leaf_of (leaf_at map i)) ≡ false → (o : ℕ) (x : Shadow c map o)
     → frame_of (leaf_at map i) ≡ frame_of (leaf_at map x.entry) → ⊥
 other_frame c map once i stands taken off o x f =
@@ -101,7 +101,7 @@ other_frame c map once i stands taken off o x f =
     true≢false (sym x.valid.0 ∙ (ap (λ (j : ℕ). shadow_page_of c.sse (leaf_of (leaf_at map j))) (sym e) ∙ off))
 
 -- an ordinary store stays beside every byte of a shadow page
-pub store_beside : (c : Control) (w : Width) (a : ℕ) (map : Map) (len : ℕ) (q : Physical)
+pub store_beside : (c : Control) (w : Width) (a : ℕ) (map : List ℕ) (len : ℕ) (q : Physical)
     → c.mode ≡ User → c.sv39 ≡ true → StandsOnce c map → place_of c kind.Store w a map len ≡ At q
     → (o : ℕ) → Shadow c map o → (base + o < q.0) ⊎ (q.0 + size_of w ≤ base + o)
 store_beside c w a map len q user sv39 once e o x =

@@ -9,8 +9,6 @@ use Prim.Native.Nat.{ℕ, zero, suc, ◌<◌, ◌≤◌}
 use lib.ListN.{length}
 use native.Mathlib.Omega.{arith}
 use borrow.Author.Tests.{le-ltb}
-use Rattle.address_page.specs.Lent.{Lent, lent_map_of}
-use Rattle.address_page.specs.Map.{Map}
 use Rattle.word.specs.Choice.{pick}
 use Rattle.step_effect.specs.declared.Effect.{Effect}
 use Rattle.step_meaning.specs.declared.Source.{Source}
@@ -26,16 +24,16 @@ use Rattle.theorem_shadow.specs.Promise.{ShadowStarts, Event, event_of, NoSwap, 
 use Rattle.theorem_shadow.proofs.Demand.{shadow_stack}
 
 -- the effect of the step that a run makes after k steps
-abbrev pub effect_after : (k : ℕ) → Hart → (m : List ℕ) (map : Map) → Effect
+abbrev pub effect_after : (k : ℕ) → Hart → (m map : List ℕ) → Effect
 effect_after k h m map = plan_of Fetch (run_of k h m map).hart (run_of k h m map).memory map
 
 -- a run of n steps without a swap and without a CSR write of ssp: no step that it makes completes one
-abbrev pub Undisturbed : (n : ℕ) → Hart → (m : List ℕ) (map : Map) → Type 0
+abbrev pub Undisturbed : (n : ℕ) → Hart → (m map : List ℕ) → Type 0
 Undisturbed n h m map =
     (k : ℕ) → k < n → (run_of k h m map).trapped ≡ false → NoSwap (effect_after k h m map) × NoPointerWrite (effect_after k h m map)
 
 -- a run's events, the newest first: those of its steps, up to the first that traps
-unfoldable pub run_events : (n : ℕ) → Hart → (m : List ℕ) (map : Map) → List Event
+unfoldable pub run_events : (n : ℕ) → Hart → (m map : List ℕ) → List Event
 run_events zero h m map = []
 run_events (suc n) h m map =
     pick (run_of n h m map).trapped (run_events n h m map) (event_of (effect_after n h m map) ∷ run_events n h m map)
@@ -46,7 +44,7 @@ one_counted : (t : Bool) (e : Event) (es : List Event) (r rest : Run) → length
 one_counted true e es r rest l c = l
 one_counted false e es r rest l c = omega (arith, l, c)
 
-pub events_counted : (n : ℕ) (h : Hart) (m : List ℕ) (map : Map) → length (run_events n h m map) ≡ (run_of n h m map).count
+pub events_counted : (n : ℕ) (h : Hart) (m map : List ℕ) → length (run_events n h m map) ≡ (run_of n h m map).count
 unfolding run_events run_from
 events_counted zero h m map = refl
 events_counted (suc n) h m map =
@@ -55,10 +53,7 @@ events_counted (suc n) h m map =
     (events_counted n h m map) refl
     ∙ ap (λ (x : Run). x.count) (sym (run_longer n h m map))
 
-module _ (lent : Lent) (h₀ : Hart) (m₀ : List ℕ) where
-  abbrev map : Map
-  map = lent_map_of lent
-
+module _ (map : List ℕ) (h₀ : Hart) (m₀ : List ℕ) where
   -- that a stretch from h₀ and m₀ leaves what a run leaves, and what a call leaves
   abbrev pub Reaches : List Event → Run → Type 0
   Reaches es r = Stretch map h₀ m₀ es r.hart r.memory r.trapped
@@ -93,32 +88,32 @@ module _ (lent : Lent) (h₀ : Hart) (m₀ : List ℕ) where
         (one_more (run_events n h m map) es r r.trapped refl w (calm n (omega arith)))
 
     -- and so does the call `run`, where it is taken
-    pub run_call : (budget : ℕ) → run_refusal_of budget h m lent ≡ 0 → Undisturbed budget h m map
-        → Leaves (run_events budget h m map ++ es) (run_call_of budget h m lent)
+    pub run_call : (budget : ℕ) → run_refusal_of budget h m map ≡ 0 → Undisturbed budget h m map
+        → Leaves (run_events budget h m map ++ es) (run_call_of budget h m map)
     unfolding run_call_of
     run_call budget e calm = rw e (run_goes_on budget calm)
 
     -- a call `step` or `step_word` that is taken is its next step
-    pub step_call : (source : Source) → refusal_of h m lent ≡ 0 → NoSwap (plan_of source h m map) → NoPointerWrite (plan_of source h m map)
-        → Leaves (event_of (plan_of source h m map) ∷ es) (step_from_call source h m lent)
+    pub step_call : (source : Source) → refusal_of h m map ≡ 0 → NoSwap (plan_of source h m map) → NoPointerWrite (plan_of source h m map)
+        → Leaves (event_of (plan_of source h m map) ∷ es) (step_from_call source h m map)
     unfolding step_from_call
     step_call source e ns np = rw e (step s source ns np)
 
   -- and at the end of a stretch from an accepted state the calls are taken: refusals 1 to 3 do not apply
-  pub stretch_accepted : refusal_of h₀ m₀ lent ≡ 0 → {es : List Event} {h : Hart} {m : List ℕ} {trapped : Bool}
-      → Stretch map h₀ m₀ es h m trapped → refusal_of h m lent ≡ 0
+  pub stretch_accepted : refusal_of h₀ m₀ map ≡ 0 → {es : List Event} {h : Hart} {m : List ℕ} {trapped : Bool}
+      → Stretch map h₀ m₀ es h m trapped → refusal_of h m map ≡ 0
   stretch_accepted e start = e
-  stretch_accepted e (step {es} {h} {m} r source ns np) = step_accepted source h m lent (stretch_accepted e r)
+  stretch_accepted e (step {es} {h} {m} r source ns np) = step_accepted source h m map (stretch_accepted e r)
 
-  not_over : (budget : ℕ) → refusal_of h₀ m₀ lent ≡ 0 → budget ≤ 1000000 → run_refusal_of budget h₀ m₀ lent ≡ 0
+  not_over : (budget : ℕ) → refusal_of h₀ m₀ map ≡ 0 → budget ≤ 1000000 → run_refusal_of budget h₀ m₀ map ≡ 0
   unfolding run_refusal_of
   not_over budget e l = rw (e, le-ltb 1000000 budget l)
 
   -- the promise of a call `run`, of what it leaves
-  pub run_keeps : (budget : ℕ) → ShadowStarts lent h₀ m₀ → budget ≤ 1000000 → Undisturbed budget h₀ m₀ map
+  pub run_keeps : (budget : ℕ) → ShadowStarts map h₀ m₀ → budget ≤ 1000000 → Undisturbed budget h₀ m₀ map
       → Promise map h₀ m₀ (run_events budget h₀ m₀ map)
-      (run_call_of budget h₀ m₀ lent).answer.hart (run_call_of budget h₀ m₀ lent).memory (run_call_of budget h₀ m₀ lent).answer.trapped
+      (run_call_of budget h₀ m₀ map).answer.hart (run_call_of budget h₀ m₀ map).memory (run_call_of budget h₀ m₀ map).answer.trapped
   run_keeps budget S l calm =
-      let s : Leaves (run_events budget h₀ m₀ map) (run_call_of budget h₀ m₀ lent) =
+      let s : Leaves (run_events budget h₀ m₀ map) (run_call_of budget h₀ m₀ map) =
       rw append-nil at (run_call [] h₀ m₀ start budget (not_over budget S.accepted l) calm) in
-      shadow_stack lent h₀ m₀ S _ _ _ _ s
+      shadow_stack map h₀ m₀ S _ _ _ _ s

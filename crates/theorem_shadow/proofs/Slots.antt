@@ -3,11 +3,11 @@
 -- Assumes nothing.
 use mathlib.Core.Path.{◌≡◌, refl, sym, ◌∙◌, ap, subst}
 use mathlib.Core.Bool.{true}
+use mathlib.Core.List.{List}
 use mathlib.Core.Logic.{◌⊎◌, inl, inr}
 use Prim.Native.Nat.{ℕ, suc, ◌+◌, ◌-◌, ◌*◌, ◌/◌, ◌%◌, ◌≤◌, ◌<◌}
 use native.Mathlib.Omega.{arith}
-use Rattle.address_page.proofs.Entries.{entry_at}
-use Rattle.address_page.specs.Map.{Map}
+use lib.ListN.{get_or}
 use Rattle.word.proofs.Either.{either}
 use Rattle.word.specs.Sign.{sign_extend_of}
 use Rattle.word.specs.Sum.{sum_of, difference_of}
@@ -49,7 +49,7 @@ eights p q f g v u hv hu ep eq n =
 one_place : (p q : Physical) → At p ≡ At q → p ≡ q
 one_place p q e = cc
 
-module _ (c : Control) (map : Map) (len : ℕ) (user : c.mode ≡ User) (sv39 : c.sv39 ≡ true) (once : StandsOnce c map) where
+module _ (c : Control) (map : List ℕ) (len : ℕ) (user : c.mode ≡ User) (sv39 : c.sv39 ≡ true) (once : StandsOnce c map) where
   -- the number of masked bits
   abbrev p : ℕ
   p = pmlen_of c.upmm
@@ -81,7 +81,7 @@ module _ (c : Control) (map : Map) (len : ℕ) (user : c.mode ≡ User) (sv39 : 
     stands : Entry map entry
     valid : ValidShadow c (leaf_at map entry)
     canonical : canonical_of (virtual a) ≡ true
-    number : (entry_at map entry).page ≡ page_number (virtual a)
+    number : get_or map (2 * entry) 0 ≡ page_number (virtual a)
     frame : q.0 ≡ frame_of (leaf_at map entry) * 4096 + virtual a % 4096
     aligned : virtual a % 8 ≡ 0
     within : Within len Double q.0
@@ -122,7 +122,7 @@ module _ (c : Control) (map : Map) (len : ℕ) (user : c.mode ≡ User) (sv39 : 
       → frame_of (leaf_at map X.entry) ≡ frame_of (leaf_at map Y.entry) → virtual a % 4096 ≡ virtual b % 4096 → rank_of p a ≡ rank_of p b
   one_rank a b q r X Y f o =
       let i : X.entry ≡ Y.entry = one_entry c map once Y.entry X.entry Y.stands X.stands Y.valid X.valid.1 f in
-      let n : page_number (virtual a) ≡ page_number (virtual b) = sym X.number ∙ (ap (λ (i : ℕ). (entry_at map i).page) i ∙ Y.number) in
+      let n : page_number (virtual a) ≡ page_number (virtual b) = sym X.number ∙ (ap (λ (i : ℕ). get_or map (2 * i) 0) i ∙ Y.number) in
       let t = canonical_inj (virtual a) (virtual b) (sign_lt bits a) (sign_lt bits b) X.canonical Y.canonical n o in
       rank_same p a b (sign_inj bits a b t)
 

@@ -9,7 +9,6 @@ use Prim.Native.Nat.{ℕ, ◌+◌, ◌-◌, ◌≤◌, ◌<◌}
 use lib.ListN.{get_or, length, length-set}
 use lib.Seq.{get_or-set_same, get_or-set_other}
 use native.Mathlib.Omega.{arith}
-use Rattle.address_page.specs.Map.{Map}
 use Rattle.word.specs.Sum.{difference_of}
 use Rattle.isa.specs.Size.{size_of}
 use Rattle.isa.specs.declared.CsrOperation.{CsrOperation}
@@ -54,7 +53,7 @@ untouched : (m : List ℕ) (q : Physical) (w : Width) (v o : ℕ) → base ≤ q
 untouched m q w v o l f (inl b) = byte_before m (q.0 - base) (size_of w) v (omega arith) o (omega arith)
 untouched m q w v o l f (inr b) = byte_after_lem m (q.0 - base) (size_of w) v (omega arith) o (omega arith)
 
-module _ (map : Map) (h₀ : Hart) (m₀ : List ℕ) where
+module _ (map : List ℕ) (h₀ : Hart) (m₀ : List ℕ) where
   abbrev c : Control
   c = in_force h₀
 

@@ -10,7 +10,6 @@ use lib.Dec.{eqb}
 use lib.ListN.{length}
 use native.Mathlib.Omega.{arith}
 use borrow.Author.Tests.{eqb-true, eq-eqb, ne_eqb, not-true}
-use Rattle.address_page.specs.Map.{Map}
 use Rattle.word.proofs.Bools.{both}
 use Rattle.word.specs.Choice.{pick}
 use Rattle.word.specs.Field.{fields_of}
@@ -45,15 +44,11 @@ use Rattle.step_hart.specs.Step.{plan_of}
 use Rattle.step_hart.specs.declared.Hart.{Hart}
 use Rattle.theorem_origin.proofs.Origins.{AccessStep, CsrStep, Origin, origin}
 use Rattle.theorem_origin.specs.Force.{in_force}
-use Rattle.theorem_shadow.specs.Promise.{PopCheck, Permitted}
-
--- a landing pad check stops the word w
-abbrev pad_stops : Hart → (w : ℕ) → Bool
-pad_stops h w = (expected h.words && (setting_of h.words).pad) && not (is_pad_of w (reg_of h.x 7))
+use Rattle.theorem_shadow.specs.Promise.{pad_stops, PopCheck, Permitted}
 
 -- a push that the definition executes as one: the word that the step fetches or is given is a push of a register that holds v, no pad
 -- check stops it, the shadow stack is on, and its access to the eight bytes below the pointer is permitted, at q
-pub record PushStep (source : Source) (h : Hart) (m : List ℕ) (map : Map) (v : ℕ) (q : Physical) : Type 0 where
+pub record PushStep (source : Source) (h : Hart) (m map : List ℕ) (v : ℕ) (q : Physical) : Type 0 where
   pub word : ℕ
   pub rd : ℕ
   pub rs1 : ℕ
@@ -67,7 +62,7 @@ pub record PushStep (source : Source) (h : Hart) (m : List ℕ) (map : Map) (v :
   pub place : place_of (in_force h) kind.Push Double (push_of (SSP of h.words)) map (length m) ≡ At q
 
 -- a pop-check that the definition completes
-pub record PopStep (source : Source) (h : Hart) (m : List ℕ) (map : Map) (v : ℕ) (q : Physical) : Type 0 where
+pub record PopStep (source : Source) (h : Hart) (m map : List ℕ) (v : ℕ) (q : Physical) : Type 0 where
   pub check : PopCheck source h m map v
   pub on : (setting_of h.words).shadow ≡ true
   pub place : Permitted h m map q
@@ -105,7 +100,7 @@ module _ (h : Hart) (w : ℕ) (k : Access) (rd rs1 rs2 off : ℕ) (reads : decod
       go true true e f n = auipc_memory _ _ k rd rs1 rs2 off (sym (pad_auipc w (reg_of h.x 7) f) ∙ reads)
       go true false e f n = cc
 
-module _ (source : Source) (h : Hart) (m : List ℕ) (map : Map) (v : ℕ) (q : Physical) where
+module _ (source : Source) (h : Hart) (m map : List ℕ) (v : ℕ) (q : Physical) where
   -- a push has the effect `Push`
   pub push_does : PushStep source h m map v q → plan_of source h m map ≡ Push q v (push_of (SSP of h.words)) (next_of (PC of h.words))
   unfolding effect_of arrived_of landed_of execute_of access_of passed_of at_of done_of
@@ -163,7 +158,7 @@ module _ (source : Source) (h : Hart) (m : List ℕ) (map : Map) (v : ℕ) (q : 
   mismatch_does p on place n = check_does p on place ∙ rw (ne_eqb (read_of m q Double) v (λ e. n (sym e)))
 
 -- a word that a pad check stops is the pad check's fault
-pub pad_stops_lem : (source : Source) (h : Hart) (m : List ℕ) (map : Map) (w : ℕ) → fetched_of source (in_force h) (PC of h.words) m map ≡ Word w
+pub pad_stops_lem : (source : Source) (h : Hart) (m map : List ℕ) (w : ℕ) → fetched_of source (in_force h) (PC of h.words) m map ≡ Word w
     → pad_stops h w ≡ true → plan_of source h m map ≡ Trap 18 2
 unfolding effect_of arrived_of landed_of
 pad_stops_lem source h m map w a s =
@@ -171,17 +166,17 @@ pad_stops_lem source h m map w a s =
     rw (a, on, not-true (is_pad_of w (reg_of h.x 7)) off)
 
 -- an effect `Swap` is a swap's
-pub swap_is : (source : Source) (h : Hart) (m : List ℕ) (map : Map) (rd old : ℕ) (q : Physical) (w : Width) (v next : ℕ)
+pub swap_is : (source : Source) (h : Hart) (m map : List ℕ) (rd old : ℕ) (q : Physical) (w : Width) (v next : ℕ)
     → plan_of source h m map ≡ Swap rd old q w v next → (aq rl : Bool) × AccessStep source h m map (access.Swap w aq rl) q
 swap_is source h m map rd old q w v next e = subst (Origin source h m map) e (origin source h m map)
 
 -- and one that writes ssp is that of a CSR instruction that writes
-pub pointer_write_is : (source : Source) (h : Hart) (m : List ℕ) (map : Map) (o : CsrOperation) (v rd next : ℕ)
+pub pointer_write_is : (source : Source) (h : Hart) (m map : List ℕ) (o : CsrOperation) (v rd next : ℕ)
     → plan_of source h m map ≡ effect.Privileged (privileged.Csr o Ssp true v rd next) → CsrStep source h m map o Ssp true rd
 pointer_write_is source h m map o v rd next e = (subst (Origin source h m map) e (origin source h m map)).1
 
 -- no other step has the effect `Pop`
-pub pop_is : (source : Source) (h : Hart) (m : List ℕ) (map : Map) (ssp next : ℕ) → plan_of source h m map ≡ Pop ssp next
+pub pop_is : (source : Source) (h : Hart) (m map : List ℕ) (ssp next : ℕ) → plan_of source h m map ≡ Pop ssp next
     → (v : ℕ) × (q : Physical) × PopStep source h m map v q
 pop_is source h m map ssp next e =
     let (moved, q, S, equal) = subst (Origin source h m map) e (origin source h m map) in (

@@ -7,7 +7,6 @@ use mathlib.Core.List.{List, [], ◌∷◌}
 use mathlib.Core.Path.{◌≡◌, refl, sym, ◌∙◌}
 use Prim.Native.Nat.{ℕ, ◌/◌, ◌^◌}
 use native.Mathlib.Omega.{arith}
-use Rattle.address_page.specs.Map.{Map}
 use Rattle.decode_base.specs.Base as base
 use Rattle.decode.specs.Cfi.{swap_of, zimop_of}
 use Rattle.decode.specs.System as system
@@ -19,8 +18,6 @@ use Rattle.memory.specs.Extend.{extend_of}
 use Rattle.memory.specs.Refusal as memory
 use Rattle.address_judge.specs.Judge.{judge_of}
 use Rattle.address_page.specs.Map as page
-use Rattle.address_page.specs.Lent as lent
-use Rattle.address_page.specs.Lent.{Lent, Columns, lent_map_of}
 use Rattle.address.specs.Align.{aligned_of}
 use Rattle.address.specs.Control as control
 use Rattle.address.specs.Mask.{mask_of, transformed_of}
@@ -51,11 +48,11 @@ use Rattle.run_call.specs.Call.{refusal_of}
 use Rattle.theorem_origin.specs.Force.{in_force}
 use Rattle.theorem_shadow.specs.Promise.{StandsOnce, ShadowStarts, quiet, NoSwap, NoPointerWrite, Stretch, start, pushes, pops, Shadow, latest, PopCheck}
 use Rattle.theorem_shadow.specs.Promise.{Permitted, unmatched, Promise}
-use Rattle.theorem_shadow.proofs.Witness.{memory₀, lent₀, map₀, hart₀, once₀, no_swap, no_pointer_write, then}
+use Rattle.theorem_shadow.proofs.Witness.{memory₀, map₀, hart₀, once₀, no_swap, no_pointer_write, then}
 
 -- the hypotheses on the start, one by one
-abbrev pub Accepted : (lent : Lent) → Hart → Type 0
-Accepted lent h = refusal_of h memory₀ lent ≡ 0
+abbrev pub Accepted : (map : List ℕ) → Hart → Type 0
+Accepted map h = refusal_of h memory₀ map ≡ 0
 
 abbrev pub InUser : Hart → Type 0
 InUser h = MODE of h.words ≡ 0
@@ -69,13 +66,12 @@ Menvcfg h = sse_of (MENVCFG of h.words) ≡ true
 abbrev pub Senvcfg : Hart → Type 0
 Senvcfg h = sse_of (SENVCFG of h.words) ≡ true
 
-abbrev pub Once : (map : Map) → Hart → Type 0
+abbrev pub Once : (map : List ℕ) → Hart → Type 0
 Once map h = StandsOnce (in_force h) map
 
 -- these are all
-pub together : (lent : Lent) (h : Hart) → Accepted lent h → InUser h → Sv39 h → Menvcfg h → Senvcfg h → Once (lent_map_of lent) h
-    → ShadowStarts lent h memory₀
-together lent h accepted user sv39 menvcfg senvcfg once =
+pub together : (map : List ℕ) (h : Hart) → Accepted map h → InUser h → Sv39 h → Menvcfg h → Senvcfg h → Once map h → ShadowStarts map h memory₀
+together map h accepted user sv39 menvcfg senvcfg once =
     record { accepted = accepted; user = user; sv39 = sv39; menvcfg = menvcfg; senvcfg = senvcfg; once = once }
 
 -- the eight shadow bytes at the witness's pointer: 0x1111 at the start
@@ -95,11 +91,11 @@ abbrev pub left : Hart → (m : List ℕ) → Outcome
 left h m = record { hart = with_word PC 4 h; memory = m; trapped = false; cause = 0 }
 
 -- a stretch of one step that changed them and pushed nothing
-abbrev pub Changes : (map : Map) → Hart → Type 0
+abbrev pub Changes : (map : List ℕ) → Hart → Type 0
 Changes map h = Stretch map h memory₀ (quiet ∷ []) (with_word PC 4 h) changed false
 
 -- and what is promised of it does not hold
-abbrev pub Breaks : (map : Map) → Hart → Type 0
+abbrev pub Breaks : (map : List ℕ) → Hart → Type 0
 Breaks map h = Promise map h memory₀ (quiet ∷ []) (with_word PC 4 h) changed false → ⊥
 
 -- the witness's hart with an address in x2
@@ -114,11 +110,8 @@ abbrev pub stores : Effect
 stores = Store there Double 0x2222 4
 
 -- without "one entry only": the frame of the shadow page is page 2's too, which has V, R, W, U, A and D
-abbrev pub lent_twice : Lent
-lent_twice = Columns (0 ∷ 1 ∷ 2 ∷ []) (0x20000059 ∷ 0x200004_d5 ∷ 0x200004_d7 ∷ [])
-
-abbrev pub twice : Map
-twice = lent_map_of lent_twice
+abbrev pub twice : List ℕ
+twice = 0 ∷ 0x20000059 ∷ 1 ∷ 0x200004_d5 ∷ 2 ∷ 0x200004_d7 ∷ []
 
 abbrev pub alias : Hart
 alias = aimed 0x2010
@@ -154,29 +147,29 @@ disabled = with_word SENVCFG 0 hart₀
 
 -- what the definitions give for these, computed
 record Computed : Type 0 where
-  alias_accepted : Accepted lent_twice alias
+  alias_accepted : Accepted twice alias
   alias_shadow : Shadow (in_force alias) twice 0x1010
   alias_stores : plan_of (Given sd) alias memory₀ twice ≡ stores
-  bare_accepted : Accepted lent₀ bare
+  bare_accepted : Accepted map₀ bare
   bare_shadow : Shadow (in_force bare) map₀ 0x1010
   bare_stores : plan_of (Given sd) bare memory₀ map₀ ≡ stores
-  in_machine_accepted : Accepted lent₀ in_machine
+  in_machine_accepted : Accepted map₀ in_machine
   in_machine_shadow : Shadow (in_force in_machine) map₀ 0x1010
   in_machine_stores : plan_of (Given sd) in_machine memory₀ map₀ ≡ stores
-  swapping_accepted : Accepted lent₀ swapping
+  swapping_accepted : Accepted map₀ swapping
   swapping_shadow : Shadow (in_force swapping) map₀ 0x1010
   swapping_swaps : plan_of (Given ssamoswap) swapping memory₀ map₀ ≡ Swap 0 0x1111 there Double 0x2222 4
   swapping_leaves : step_from (Given ssamoswap) swapping memory₀ map₀ ≡ left swapping changed
-  pointing_accepted : Accepted lent₀ pointing
+  pointing_accepted : Accepted map₀ pointing
   pointing_writes : plan_of (Given csrrw) pointing memory₀ map₀ ≡ Privileged (Csr operation.Write Ssp true 0x1020 0 4)
   pointing_leaves : step_from (Given csrrw) pointing memory₀ map₀ ≡ left (with_word SSP 0x1020 pointing) memory₀
-  disabled_accepted : Accepted lent₀ disabled
+  disabled_accepted : Accepted map₀ disabled
   disabled_checks : PopCheck (Given sspopchk) disabled memory₀ map₀ 0x2222
   disabled_permitted : Permitted disabled memory₀ map₀ there
   disabled_goes_on : (step_from (Given sspopchk) disabled memory₀ map₀).trapped ≡ false
 
 computed : Computed
-unfolding refusal_of legal words_legal memory.memory_refused_of lent.map_refused_of lent.any_large lent.strictly_rise step_from privileged_of
+unfolding refusal_of legal words_legal memory.memory_refused_of page.map_refused_of page.pages_of page.any_large page.rise_from page.strictly_rise step_from privileged_of
     csr_of written_of shown_of effect_of fetched_of arrived_of landed_of execute_of decode_of base.decode_store_of swap_of system.system_of system.decode_csr_of zimop_of
     csrs.csr_effect_of csrs.csr_reached_of reach_of access_of passed_of at_of done_of place_of reached_of control.effective_mode_of transformed_of mask_of aligned_of paged_place_of
     plain_place_of through_of page.lookup_of settle_of judge_of inside_of within_of setting_of control_of shadow_on pad_on mode_of memory₀ bytes_of number
@@ -204,13 +197,13 @@ computed = record {
   disabled_goes_on = refl;
 }
 
-breaks : (map : Map) (h : Hart) → Shadow (in_force h) map 0x1010 → Breaks map h
+breaks : (map : List ℕ) (h : Hart) → Shadow (in_force h) map 0x1010 → Breaks map h
 unfolding memory₀ bytes_of store_of latest
 breaks map h shadow p = absurd (omega (arith, p.bytes 0x1010 shadow))
 
 -- "let each frame of a valid shadow page stand in one entry of the map only"
 pub needs-once :
-    Accepted lent_twice alias × InUser alias × Sv39 alias × Menvcfg alias × Senvcfg alias × Changes twice alias × Breaks twice alias
+    Accepted twice alias × InUser alias × Sv39 alias × Menvcfg alias × Senvcfg alias × Changes twice alias × Breaks twice alias
 needs-once = (
   computed.alias_accepted,
   refl,
@@ -222,7 +215,7 @@ needs-once = (
 )
 
 -- "with Sv39"
-pub needs_sv39 : Accepted lent₀ bare × InUser bare × Menvcfg bare × Senvcfg bare × Once map₀ bare × Changes map₀ bare × Breaks map₀ bare
+pub needs_sv39 : Accepted map₀ bare × InUser bare × Menvcfg bare × Senvcfg bare × Once map₀ bare × Changes map₀ bare × Breaks map₀ bare
 needs_sv39 = (
   computed.bare_accepted,
   refl,
@@ -235,7 +228,7 @@ needs_sv39 = (
 
 -- "in user mode"
 pub needs_user :
-    Accepted lent₀ in_machine × Sv39 in_machine × Menvcfg in_machine × Senvcfg in_machine × Once map₀ in_machine
+    Accepted map₀ in_machine × Sv39 in_machine × Menvcfg in_machine × Senvcfg in_machine × Once map₀ in_machine
     × Changes map₀ in_machine × Breaks map₀ in_machine
 needs_user = (
   computed.in_machine_accepted,
@@ -249,13 +242,13 @@ needs_user = (
 
 -- "without a shadow swap"
 pub needs-no-swap :
-    ShadowStarts lent₀ swapping memory₀
+    ShadowStarts map₀ swapping memory₀
     × NoPointerWrite (plan_of (Given ssamoswap) swapping memory₀ map₀)
     × (plan_of (Given ssamoswap) swapping memory₀ map₀ ≡ Swap 0 0x1111 there Double 0x2222 4)
     × (step_from (Given ssamoswap) swapping memory₀ map₀ ≡ left swapping changed)
     × Breaks map₀ swapping
 needs-no-swap = (
-  together lent₀ swapping computed.swapping_accepted refl refl refl refl (once₀ (in_force swapping)),
+  together map₀ swapping computed.swapping_accepted refl refl refl refl (once₀ (in_force swapping)),
   rw computed.swapping_swaps (no_pointer_write _ (λ e. absurd (omega (arith, e)))),
   computed.swapping_swaps,
   computed.swapping_leaves,
@@ -264,14 +257,14 @@ needs-no-swap = (
 
 -- "without a write of the shadow pointer by a CSR instruction"
 pub needs-no-pointer-write :
-    ShadowStarts lent₀ pointing memory₀
+    ShadowStarts map₀ pointing memory₀
     × NoSwap (plan_of (Given csrrw) pointing memory₀ map₀)
     × (plan_of (Given csrrw) pointing memory₀ map₀ ≡ Privileged (Csr operation.Write Ssp true 0x1020 0 4))
     × (step_from (Given csrrw) pointing memory₀ map₀ ≡ left (with_word SSP 0x1020 pointing) memory₀)
     × (Promise map₀ pointing memory₀ (quiet ∷ []) (with_word PC 4 (with_word SSP 0x1020 pointing)) memory₀ false → ⊥)
 unfolding pushes pops
 needs-no-pointer-write = (
-  together lent₀ pointing computed.pointing_accepted refl refl refl refl (once₀ (in_force pointing)),
+  together map₀ pointing computed.pointing_accepted refl refl refl refl (once₀ (in_force pointing)),
   rw computed.pointing_writes (no_swap _ (λ e. absurd (omega (arith, e)))),
   computed.pointing_writes,
   computed.pointing_leaves,
@@ -280,7 +273,7 @@ needs-no-pointer-write = (
 
 -- "both shadow_stack enables on": already at the start a pop-check would not trap, where its register is not what stands there
 pub needs-senvcfg :
-    Accepted lent₀ disabled × InUser disabled × Sv39 disabled × Menvcfg disabled × Once map₀ disabled
+    Accepted map₀ disabled × InUser disabled × Sv39 disabled × Menvcfg disabled × Once map₀ disabled
     × Stretch map₀ disabled memory₀ [] disabled memory₀ false
     × (Promise map₀ disabled memory₀ [] disabled memory₀ false → ⊥)
 unfolding memory₀ bytes_of number load_of unmatched

@@ -15,9 +15,6 @@ use Rattle.memory.specs.Bytes.{bytes_of, number, load_of, store_of}
 use Rattle.memory.specs.Refusal as memory
 use Rattle.address_judge.specs.Judge.{judge_of}
 use Rattle.address_page.specs.Map as page
-use Rattle.address_page.specs.Map.{Map}
-use Rattle.address_page.specs.Lent as lent
-use Rattle.address_page.specs.Lent.{Lent, Columns, lent_map_of}
 use Rattle.address.specs.Align.{aligned_of}
 use Rattle.address.specs.Control as control
 use Rattle.address.specs.Mask.{mask_of, transformed_of}
@@ -63,11 +60,8 @@ unfoldable pub memory₀ : List ℕ
 memory₀ = program ++ replicate 4084 0 ++ bytes_of 8 0x1111 ++ replicate 4072 0
 
 -- page 0 is frame 0x80000 with V, X, U and A; page 1 is frame 0x80001 with V, W, U, A and D, a shadow page
-abbrev pub lent₀ : Lent
-lent₀ = Columns (0 ∷ 1 ∷ []) (0x20000059 ∷ 0x200004_d5 ∷ [])
-
-abbrev pub map₀ : Map
-map₀ = lent_map_of lent₀
+abbrev pub map₀ : List ℕ
+map₀ = 0 ∷ 0x20000059 ∷ 1 ∷ 0x200004_d5 ∷ []
 
 -- in user mode with Sv39 and both enables; x1 is 0x1111 and x5 is 0x2222; the pointer is at the 0x1111 in memory
 abbrev pub hart₀ : Hart
@@ -85,8 +79,8 @@ once₀ c (suc zero) (suc (suc j)) a b v w f = absurd (omega (arith, b))
 once₀ c (suc (suc i)) j a b v w f = absurd (omega (arith, a))
 
 -- the hypotheses
-pub starts : ShadowStarts lent₀ hart₀ memory₀
-unfolding refusal_of legal words_legal memory.memory_refused_of lent.map_refused_of lent.any_large lent.strictly_rise memory₀ bytes_of
+pub starts : ShadowStarts map₀ hart₀ memory₀
+unfolding refusal_of legal words_legal memory.memory_refused_of page.map_refused_of page.pages_of page.any_large page.rise_from page.strictly_rise memory₀ bytes_of
 starts = record { accepted = refl; user = refl; sv39 = refl; menvcfg = refl; senvcfg = refl; once = once₀ (in_force hart₀) }
 
 -- the hart after each step: the pointer and pc have moved
@@ -163,7 +157,7 @@ module _ (e : Effect) where
   no_pointer_write n o v rd to is = absurd (n (ap sort_of is))
 
 -- a stretch goes on with a step whose effect is known
-module _ {map : Map} {h₀ : Hart} {m₀ : List ℕ} {es : List Event} {h : Hart} {m : List ℕ} (source : Source) (e : Effect) where
+module _ {map : List ℕ} {h₀ : Hart} {m₀ : List ℕ} {es : List Event} {h : Hart} {m : List ℕ} (source : Source) (e : Effect) where
   pub then : Stretch map h₀ m₀ es h m false → plan_of source h m map ≡ e → sort_of e ≡ 0
       → Stretch map h₀ m₀ (event_of e ∷ es) (apply_of e h) (memory_of e m) (traps_of e)
   unfolding step_from
@@ -236,6 +230,6 @@ matches = (refl, refl, refl, refl)
 -- so that the theorem, and not the computation, says that the seventh step traps
 pub caught : (step_from Fetch hart₆ memory₃ map₀).trapped ≡ true
 caught =
-    ((shadow_stack lent₀ hart₀ memory₀ starts _ _ _ _ before).checks refl Fetch 0x1111 (record { 0 = 0x80001010 })
+    ((shadow_stack map₀ hart₀ memory₀ starts _ _ _ _ before).checks refl Fetch 0x1111 (record { 0 = 0x80001010 })
     applies.seventh applies.seventh_at).1
     (λ e. absurd (omega (arith, e, matches.3)))

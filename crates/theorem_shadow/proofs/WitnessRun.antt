@@ -8,13 +8,12 @@ use native.Mathlib.Omega.{arith}
 use Rattle.step_effect.specs.declared.Effect.{Effect}
 use Rattle.step_meaning.specs.declared.Source.TheVariants.{Fetch}
 use Rattle.step_hart.proofs.Longer.{run_longer}
-use Rattle.step_hart.proofs.Turns.{stayed}
-use Rattle.step_hart.specs.Run.{Run, after, once, run_from, run_of}
+use Rattle.step_hart.specs.Run.{Run, after, stayed, once, run_from, run_of}
 use Rattle.step_hart.specs.Step.{outcome_of, plan_of, step_from}
 use Rattle.run_call.specs.Call.{run_refusal_of, taken_with, run_call_of}
 use Rattle.theorem_shadow.specs.Promise.{NoSwap, NoPointerWrite, Promise}
 use Rattle.theorem_shadow.proofs.Runs.{effect_after, Undisturbed, run_events, run_keeps}
-use Rattle.theorem_shadow.proofs.Witness.{memory₀, memory₁, memory₂, memory₃, lent₀, map₀, hart₀, hart₁, hart₂, hart₃, hart₄, hart₅, hart₆, hart₇, starts}
+use Rattle.theorem_shadow.proofs.Witness.{memory₀, memory₁, memory₂, memory₃, map₀, hart₀, hart₁, hart₂, hart₃, hart₄, hart₅, hart₆, hart₇, starts}
 use Rattle.theorem_shadow.proofs.Witness.{effects, sort_of, no_swap, no_pointer_write}
 
 -- n steps
@@ -54,7 +53,7 @@ pub ran : run_of 7 hart₀ memory₀ map₀ ≡ record { hart = hart₇; memory 
 ran = further 6 _ _ ran₆ refl effects.seventh
 
 -- as a call
-pub called : run_call_of 7 hart₀ memory₀ lent₀ ≡ taken_with (record { hart = hart₇; memory = memory₃; count = 7; trapped = true; cause = 18 })
+pub called : run_call_of 7 hart₀ memory₀ map₀ ≡ taken_with (record { hart = hart₇; memory = memory₃; count = 7; trapped = true; cause = 18 })
 unfolding run_call_of run_refusal_of
 called = rw starts.accepted (ap taken_with ran)
 
@@ -75,5 +74,5 @@ undisturbed (suc (suc (suc (suc (suc (suc (suc k))))))) l t = absurd (omega arit
 
 -- so the promise holds of what the call leaves
 pub kept : Promise map₀ hart₀ memory₀ (run_events 7 hart₀ memory₀ map₀)
-    (run_call_of 7 hart₀ memory₀ lent₀).answer.hart (run_call_of 7 hart₀ memory₀ lent₀).memory (run_call_of 7 hart₀ memory₀ lent₀).answer.trapped
-kept = run_keeps lent₀ hart₀ memory₀ 7 starts (omega arith) undisturbed
+    (run_call_of 7 hart₀ memory₀ map₀).answer.hart (run_call_of 7 hart₀ memory₀ map₀).memory (run_call_of 7 hart₀ memory₀ map₀).answer.trapped
+kept = run_keeps map₀ hart₀ memory₀ 7 starts (omega arith) undisturbed

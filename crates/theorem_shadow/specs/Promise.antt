@@ -11,11 +11,9 @@
 -- `ShadowClaim`, at the end, is the whole: `ShadowStarts`, `Stretch` and `Promise` are its three sentences. Each definition stands under the words that
 -- it renders, in quotes, in their order but for what another one needs first.
 --
--- Below, h is the hart, m memory, map the page map, lent the map as the host lends it; h₀ and m₀ are those that the stretch starts from. A step is `step_from`, which the
+-- Below, h is the hart, m memory, map the page map; h₀ and m₀ are those that the stretch starts from. A step is `step_from`, which the
 -- calls `step`, `step_word` and `run` are proved to make, and its effect is `plan_of`.
 use Rattle.std.specs.Prelude.{Bool, true, false, ◌&&◌, not, List, [], ◌∷◌, ◌↔◌, ◌≡◌, ℕ, suc, ◌+◌, ◌-◌, ◌*◌, ◌/◌, ◌%◌, ◌^◌, leb, ltb, get_or, drop, length}
-use Rattle.address_page.specs.Lent.{Lent, lent_map_of}
-use Rattle.address_page.specs.Map.{Map}
 use Rattle.word.specs.Choice.{pick}
 use Rattle.decode.specs.Decode.{decode_of}
 use Rattle.isa.specs.declared.Access.TheVariants as access
@@ -53,19 +51,19 @@ ValidShadow c e = (shadow_page_of c.sse (leaf_of e) ≡ true) × ValidLeaf c e
 
 -- "let each frame of a valid shadow page stand in one entry of the map only"; an entry whose leaf step 5 does not take is no page's, and
 -- no frame stands there
-abbrev pub StandsOnce : Control → (map : Map) → Type 0
+abbrev pub StandsOnce : Control → (map : List ℕ) → Type 0
 StandsOnce c map =
     (i j : ℕ) → Entry map i → Entry map j → ValidShadow c (leaf_at map i) → ValidLeaf c (leaf_at map j)
     → frame_of (leaf_at map j) ≡ frame_of (leaf_at map i) → j ≡ i
 
 -- "Start in user mode with Sv39 and both shadow_stack enables on", from a state that refusals 1 to 3 do not apply to
-pub record ShadowStarts (lent : Lent) (h₀ : Hart) (m₀ : List ℕ) : Type 0 where
-  pub accepted : refusal_of h₀ m₀ lent ≡ 0
+pub record ShadowStarts (map : List ℕ) (h₀ : Hart) (m₀ : List ℕ) : Type 0 where
+  pub accepted : refusal_of h₀ m₀ map ≡ 0
   pub user : MODE of h₀.words ≡ 0
   pub sv39 : SATP of h₀.words / 2 ^ 60 ≡ 8
   pub menvcfg : sse_of (MENVCFG of h₀.words) ≡ true
   pub senvcfg : sse_of (SENVCFG of h₀.words) ≡ true
-  pub once : StandsOnce (in_force h₀) (lent_map_of lent)
+  pub once : StandsOnce (in_force h₀) map
 
 -- what a step is to the shadow stack: a push of a value at a physical address, a pop, or neither
 pub data Event : Type 0 where
@@ -97,7 +95,7 @@ NoPointerWrite e = (o : CsrOperation) (v rd next : ℕ) → e ≡ effect.Privile
 -- "Take any stretch of steps under one map, each from the hart and memory that the last one left, up to and including the first trap":
 -- its events, the newest first, the hart and memory that it leaves, and whether its last step trapped. A step takes its word from
 -- any source: it fetches, or is given one
-module _ (map : Map) (h₀ : Hart) (m₀ : List ℕ) where
+module _ (map : List ℕ) (h₀ : Hart) (m₀ : List ℕ) where
   pub data Stretch : List Event → Hart → List ℕ → (trapped : Bool) → Type 0 where
     start : Stretch [] h₀ m₀ false
     step : {es : List Event} {h : Hart} {m : List ℕ} → Stretch es h m false → (source : Source)
@@ -124,34 +122,41 @@ abbrev pub Moved : (ssp₀ ssp : ℕ) → List Event → Type 0
 Moved ssp₀ ssp es = (ssp + 8 * pushes es) % 2 ^ 64 ≡ (ssp₀ + 8 * pops es) % 2 ^ 64
 
 -- "each shadow byte": byte o of memory lies in the frame of a valid shadow page (beyond memory's end there is none: both sides are 0)
-pub record Shadow (c : Control) (map : Map) (o : ℕ) : Type 0 where
+pub record Shadow (c : Control) (map : List ℕ) (o : ℕ) : Type 0 where
   pub entry : ℕ
   pub stands : Entry map entry
   pub valid : ValidShadow c (leaf_at map entry)
   pub frame : (base + o) / 4096 ≡ frame_of (leaf_at map entry)
 
--- "is what the latest push there wrote, else its starting byte": a push of v at a physical address wrote eight bytes, the lowest first
+-- byte o after a push of v at a physical address, which wrote eight bytes, the lowest first; else what it was before
+abbrev pub wrote_of : (at v o before : ℕ) → ℕ
+wrote_of at v o before = pick (leb at (base + o) && ltb (base + o) (at + 8)) (v / 256 ^ (base + o - at) % 256) before
+
+-- "is what the latest push there wrote, else its starting byte"
 unfoldable pub latest : List Event → (o starting : ℕ) → ℕ
 latest [] o starting = starting
-latest (pushed at v ∷ es) o starting =
-    pick (leb at (base + o) && ltb (base + o) (at + 8)) (v / 256 ^ (base + o - at) % 256) (latest es o starting)
+latest (pushed at v ∷ es) o starting = wrote_of at v o (latest es o starting)
 latest (popped ∷ es) o starting = latest es o starting
 latest (quiet ∷ es) o starting = latest es o starting
 
+-- a landing pad check stops the word w
+abbrev pub pad_stops : Hart → (w : ℕ) → Bool
+pad_stops h w = (expected h.words && (setting_of h.words).pad) && not (is_pad_of w (reg_of h.x 7))
+
 -- "a pop-check that no landing pad check stops": the word that the step fetches or is given is one, of a register that holds v
-pub record PopCheck (source : Source) (h : Hart) (m : List ℕ) (map : Map) (v : ℕ) : Type 0 where
+pub record PopCheck (source : Source) (h : Hart) (m map : List ℕ) (v : ℕ) : Type 0 where
   pub word : ℕ
   pub rd : ℕ
   pub rs1 : ℕ
   pub rs2 : ℕ
   pub off : ℕ
   pub arrives : fetched_of source (in_force h) (PC of h.words) m map ≡ Word word
-  pub passes : (expected h.words && (setting_of h.words).pad) && not (is_pad_of word (reg_of h.x 7)) ≡ false
+  pub passes : pad_stops h word ≡ false
   pub reads : decode_of word ≡ instruction.Memory access.Pop rd rs1 rs2 off
   pub register : v ≡ reg_of h.x rs1
 
 -- "and whose access is permitted": its eight bytes at the pointer, masked and translated, are at the physical address q
-abbrev pub Permitted : Hart → (m : List ℕ) (map : Map) → (q : Physical) → Type 0
+abbrev pub Permitted : Hart → (m map : List ℕ) → (q : Physical) → Type 0
 Permitted h m map q = place_of (in_force h) kind.Pop Double (SSP of h.words) map (length m) ≡ At q
 
 -- the values that were pushed and not yet popped, "last in first out"
@@ -166,7 +171,7 @@ abbrev pub match_of : List Event → (m₀ : List ℕ) → (q : Physical) → �
 match_of es m₀ q = get_or (unmatched es) 0 (read_of m₀ q Double)
 
 -- what holds at the end of a stretch; "a pop-check" is one that comes next, so this is said of each one in the stretch and of one after it
-pub record Promise (map : Map) (h₀ : Hart) (m₀ : List ℕ) (es : List Event) (h : Hart) (m : List ℕ) (trapped : Bool) : Type 0 where
+pub record Promise (map : List ℕ) (h₀ : Hart) (m₀ : List ℕ) (es : List Event) (h : Hart) (m : List ℕ) (trapped : Bool) : Type 0 where
   pub pointer : Moved (SSP of h₀.words) (SSP of h.words) es
   pub bytes : (o : ℕ) → Shadow (in_force h₀) map o → get_or m o 0 ≡ latest es o (get_or m₀ o 0)
   -- "traps exactly when its register differs from" its match
@@ -176,6 +181,6 @@ pub record Promise (map : Map) (h₀ : Hart) (m₀ : List ℕ) (es : List Event)
 -- the whole: "Start ..", "Take ..", "Then .."
 abbrev pub ShadowClaim : Type 0
 ShadowClaim =
-    (lent : Lent) (h₀ : Hart) (m₀ : List ℕ) → ShadowStarts lent h₀ m₀
-    → (es : List Event) (h : Hart) (m : List ℕ) (trapped : Bool) → Stretch (lent_map_of lent) h₀ m₀ es h m trapped
-    → Promise (lent_map_of lent) h₀ m₀ es h m trapped
+    (map : List ℕ) (h₀ : Hart) (m₀ : List ℕ) → ShadowStarts map h₀ m₀
+    → (es : List Event) (h : Hart) (m : List ℕ) (trapped : Bool) → Stretch map h₀ m₀ es h m trapped
+    → Promise map h₀ m₀ es h m trapped

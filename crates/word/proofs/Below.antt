@@ -1,9 +1,9 @@
 -- A result is a word: what the operations of this crate give is below 2 ^ 64, said once for all of them.
 -- Assumes nothing.
-use Rattle.std.proofs.Common.{◌≡◌, ℕ, ◌*◌, ◌/◌, ◌%◌, ◌^◌, ◌<◌, ◌≤◌, mod-lt, mod-eq_of_lt, arith}
+use Rattle.std.proofs.Common.{◌≡◌, ℕ, ◌%◌, ◌^◌, ◌<◌, ◌≤◌, mod-lt, mod-eq_of_lt, arith}
 use lib.Bits.{bit_and, bit_or, bit_xor, and_lt, or_lt, xor_lt}
 use lib.Pow.{shr_le}
-use Rattle.word.specs.Shift.{shifted_arithmetic}
+use Rattle.word.specs.Shift.{left_of, right_of, arithmetic_of}
 use Rattle.word.specs.Sign.{sign_extend_of}
 use Rattle.word.specs.Sum.{sum_of, difference_of}
 use Rattle.word.proofs.Extension.{extend_below}
@@ -14,9 +14,9 @@ pub data Result : ℕ → Type 0 where
   sum : (a b : ℕ) → Result (sum_of a b)
   difference : (a b : ℕ) → Result (difference_of a b)
   extended : (k v : ℕ) → 0 < k → k ≤ 64 → Result (sign_extend_of k v)
-  left : (a n : ℕ) → Result (a * 2 ^ (n % 64) % 2 ^ 64)
-  right : (a n : ℕ) → a < 2 ^ 64 → Result (a / 2 ^ (n % 64))
-  arithmetic : (a n : ℕ) → a < 2 ^ 64 → Result (shifted_arithmetic 64 a (n % 64))
+  left : (a n : ℕ) → Result (left_of a n)
+  right : (a n : ℕ) → a < 2 ^ 64 → Result (right_of a n)
+  arithmetic : (a n : ℕ) → a < 2 ^ 64 → Result (arithmetic_of a n)
   and : (a b : ℕ) → a < 2 ^ 64 → b < 2 ^ 64 → Result (bit_and a b)
   or : (a b : ℕ) → a < 2 ^ 64 → b < 2 ^ 64 → Result (bit_or a b)
   xor : (a b : ℕ) → a < 2 ^ 64 → b < 2 ^ 64 → Result (bit_xor a b)

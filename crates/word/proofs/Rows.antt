@@ -5,7 +5,7 @@ use Rattle.std.proofs.Common.{◌≡◌, ℕ, zero, suc, ◌+◌, ◌*◌, ◌/�
 use lib.Pow.{split, high, low}
 use Rattle.word.specs.Choice.{pick}
 use Rattle.word.proofs.Bools.{both}
-use Rattle.word.specs.Row.{Field, Fixed, Only, Hidden, field_width_of, takes_of, shows_of, holds_of, digit, write_from, read_from, legal_from}
+use Rattle.word.specs.Row.{Field, Fixed, Covered, Any, Only, Hidden, field_width_of, takes_of, shows_of, holds_of, digit, write_from, read_from, legal_from}
 use Rattle.word.specs.Row.{row_write_of, row_read_of, row_legal_of}
 
 abbrev pub bits_of : List Field → ℕ
@@ -14,7 +14,9 @@ bits_of (f ∷ fs) = field_width_of f + bits_of fs
 
 -- a fixed value fits its field
 abbrev pub fits : Field → Bool
-fits (Fixed n k s) = ltb k (2 ^ n)
+fits (Fixed n k) = ltb k (2 ^ n)
+fits (Covered n k) = ltb k (2 ^ n)
+fits (Any n) = true
 fits (Only n ok) = true
 fits (Hidden n ok) = true
 
@@ -28,7 +30,9 @@ well_made fs = all_fit fs && eqb (bits_of fs) 64
 
 -- a field that a write reaches and a read shows
 abbrev pub seen : Field → Bool
-seen (Fixed n k s) = eqb k s
+seen (Fixed n k) = true
+seen (Covered n k) = false
+seen (Any n) = true
 seen (Only n ok) = true
 seen (Hidden n ok) = false
 
@@ -60,24 +64,32 @@ one P false x y h g = g
 
 -- a field's new value fits it
 takes : (f : Field) (old v : ℕ) → fits f ≡ true → old < 2 ^ field_width_of f → v < 2 ^ field_width_of f → takes_of f old v < 2 ^ field_width_of f
-takes (Fixed n k s) old v h a b = ltb-true k (2 ^ n) h
+takes (Fixed n k) old v h a b = ltb-true k (2 ^ n) h
+takes (Covered n k) old v h a b = ltb-true k (2 ^ n) h
+takes (Any n) old v h a b = b
 takes (Only n ok) old v h a b = one (λ x. x < 2 ^ n) (ok v) v old (λ _. b) a
 takes (Hidden n ok) old v h a b = a
 
 -- and is one that it can hold
 holds : (f : Field) (old v : ℕ) → holds_of f old ≡ true → holds_of f (takes_of f old v) ≡ true
-holds (Fixed n k s) old v h = eq-eqb k k refl
+holds (Fixed n k) old v h = eq-eqb k k refl
+holds (Covered n k) old v h = eq-eqb k k refl
+holds (Any n) old v h = refl
 holds (Only n ok) old v h = one (λ x. ok x ≡ true) (ok v) v old (λ e. e) h
 holds (Hidden n ok) old v h = h
 
 -- a value that it can hold is taken, and shown
 stays : (f : Field) (old v : ℕ) → seen f ≡ true → holds_of f v ≡ true → takes_of f old v ≡ v
-stays (Fixed n k s) old v o h = sym (eqb-true v k h)
+stays (Fixed n k) old v o h = sym (eqb-true v k h)
+stays (Covered n k) old v o h = cc
+stays (Any n) old v o h = refl
 stays (Only n ok) old v o h = rw h
 stays (Hidden n ok) old v o h = cc
 
 shows : (f : Field) (d : ℕ) → seen f ≡ true → holds_of f d ≡ true → shows_of f d ≡ d
-shows (Fixed n k s) d o h = sym (eqb-true d k h ∙ eqb-true k s o)
+shows (Fixed n k) d o h = sym (eqb-true d k h)
+shows (Covered n k) d o h = cc
+shows (Any n) d o h = refl
 shows (Only n ok) d o h = refl
 shows (Hidden n ok) d o h = cc
 

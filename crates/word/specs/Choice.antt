@@ -5,10 +5,6 @@ abbrev pub pick : {A : Type 0} → Bool → A → A → A
 pick true a b = a
 pick false a b = b
 
--- 1 where a test holds, else 0
-abbrev pub flag_of : Bool → ℕ
-flag_of b = pick b 1 0
-
 infixr 3 ◌⇒◌¦◌
 -- rows of a key and what it stands for, and what stands for every other key
 pub data Table (A : Type 0) : Type 0 where

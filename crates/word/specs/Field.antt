@@ -11,4 +11,5 @@ opcode w = w % 2 ^ 7
 
 -- the R format: funct7, rs2, rs1, funct3, rd, opcode
 abbrev pub fields_of : ℕ → Fields
-fields_of w = record { rd = bits w 11 7; funct3 = bits w 14 12; rs1 = bits w 19 15; rs2 = bits w 24 20; funct7 = bits w 31 25 }
+fields_of w =
+    record { rd = bits w 11 7; funct3 = bits w 14 12; rs1 = bits w 19 15; rs2 = bits w 24 20; funct7 = bits w 31 25 }

@@ -5,37 +5,45 @@ use Rattle.word.specs.Choice.{pick}
 
 -- n bits each
 pub data Field : Type 0 where
-  -- stored as a value and shown as one, whatever is written: unnamed bits are 0; UXL and SXL are 2, of which sstatus shows SXL as 0
-  Fixed : (n value shown : ℕ) → Field
+  -- reads this value, whatever is written: unnamed bits 0, UXL and SXL 2
+  Fixed : (n value : ℕ) → Field
+  -- stored as this value, and not seen through this register: reads 0
+  Covered : (n value : ℕ) → Field
+  -- holds what was written
+  Any : (n : ℕ) → Field
   -- holds these values alone; writing another keeps the old one
   Only : (n : ℕ) → (ℕ → Bool) → Field
   -- stored, and not seen through this register: reads 0 and is not written; these are the values that it can hold
   Hidden : (n : ℕ) → (ℕ → Bool) → Field
 
--- holds what was written
-abbrev pub Any : (n : ℕ) → Field
-Any n = Only n (λ d. true)
-
 abbrev pub field_width_of : Field → ℕ
-field_width_of (Fixed n k s) = n
+field_width_of (Fixed n k) = n
+field_width_of (Covered n k) = n
+field_width_of (Any n) = n
 field_width_of (Only n ok) = n
 field_width_of (Hidden n ok) = n
 
 -- what a write of v over old leaves in a field, each as the field's own number
 abbrev pub takes_of : Field → (old v : ℕ) → ℕ
-takes_of (Fixed n k s) old v = k
+takes_of (Fixed n k) old v = k
+takes_of (Covered n k) old v = k
+takes_of (Any n) old v = v
 takes_of (Only n ok) old v = pick (ok v) v old
 takes_of (Hidden n ok) old v = old
 
 -- what a field that holds d shows
 abbrev pub shows_of : Field → ℕ → ℕ
-shows_of (Fixed n k s) d = s
+shows_of (Fixed n k) d = k
+shows_of (Covered n k) d = 0
+shows_of (Any n) d = d
 shows_of (Only n ok) d = d
 shows_of (Hidden n ok) d = 0
 
 -- whether a field can hold d
 abbrev pub holds_of : Field → ℕ → Bool
-holds_of (Fixed n k s) d = d == k
+holds_of (Fixed n k) d = d == k
+holds_of (Covered n k) d = d == k
+holds_of (Any n) d = true
 holds_of (Only n ok) d = ok d
 holds_of (Hidden n ok) d = ok d
 
@@ -79,7 +87,7 @@ pub data Place : Type 0 where
 -- n unnamed bits, which read zero
 abbrev pub unnamed : ℕ → List Field → List Field
 unnamed zero fs = fs
-unnamed (suc n) fs = Fixed (suc n) 0 0 ∷ fs
+unnamed (suc n) fs = Fixed (suc n) 0 ∷ fs
 
 -- a row from its named fields
 abbrev pub row_from : ℕ → List Place → List Field

@@ -1,19 +1,18 @@
 // The three shifts of a 64-bit word by the low six bits of an amount, and their word forms: the low 32
 // bits, shifted by the low five bits of an amount and sign-extended.
-ghost use Rattle.std.specs.Prelude.{◌≡◌, ℕ, ◌-◌, ◌*◌, ◌/◌, ◌%◌, ◌^◌, ◌<◌, ◌≤◌};
-ghost use Rattle.word.specs.Shift.{shifted_arithmetic};
-ghost use Rattle.word.specs.Sign.{sign_extend_of};
+ghost use Rattle.std.specs.Prelude.{◌≡◌, ℕ, ◌-◌, ◌^◌, ◌<◌, ◌≤◌};
+ghost use Rattle.word.specs.Shift.{left_of, right_of, arithmetic_of, left_word_of, right_word_of, arithmetic_word_of, shifted_arithmetic};
 
 use super::sign::from_32;
 
 pub fn left(a: u64, n: u64) -> u64
-    ensures { result ≡ a * 2 ^ (n % 64) % 2 ^ 64 }
+    ensures { result ≡ left_of a n }
 {
     a << (n % 64)
 }
 
 pub fn right(a: u64, n: u64) -> u64
-    ensures { result ≡ a / 2 ^ (n % 64) }
+    ensures { result ≡ right_of a n }
 {
     a >> (n % 64)
 }
@@ -33,25 +32,25 @@ fn filled(ones: u64, a: u64, n: u64) -> u64
 }
 
 pub fn arithmetic(a: u64, n: u64) -> u64
-    ensures { result ≡ shifted_arithmetic 64 a (n % 64) }
+    ensures { result ≡ arithmetic_of a n }
 {
     filled(u64::MAX, a, n % 64)
 }
 
 pub fn left_word(a: u64, n: u64) -> u64
-    ensures { result ≡ sign_extend_of 32 (a * 2 ^ (n % 32) % 2 ^ 64) }
+    ensures { result ≡ left_word_of a n }
 {
     from_32(a << (n % 32))
 }
 
 pub fn right_word(a: u64, n: u64) -> u64
-    ensures { result ≡ sign_extend_of 32 (a % 2 ^ 32 / 2 ^ (n % 32)) }
+    ensures { result ≡ right_word_of a n }
 {
     from_32((a % 4294967296) >> (n % 32))
 }
 
 pub fn arithmetic_word(a: u64, n: u64) -> u64
-    ensures { result ≡ sign_extend_of 32 (shifted_arithmetic 32 (a % 2 ^ 32) (n % 32)) }
+    ensures { result ≡ arithmetic_word_of a n }
 {
     from_32(filled(0xffff_ffff, a % 4294967296, n % 32))
 }

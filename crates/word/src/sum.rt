@@ -1,7 +1,6 @@
 // Sums and differences modulo 2^64, and their word forms: modulo 2^32 and sign-extended.
 ghost use Rattle.std.specs.Prelude.{◌≡◌};
-ghost use Rattle.word.specs.Sum.{sum_of, difference_of};
-ghost use Rattle.word.specs.Sign.{sign_extend_of};
+ghost use Rattle.word.specs.Sum.{sum_of, difference_of, sum_word_of, difference_word_of};
 
 use super::sign::from_32;
 use std::num::{wrapping_add_u64, wrapping_sub_u64};
@@ -19,13 +18,13 @@ pub fn difference(a: u64, b: u64) -> u64
 }
 
 pub fn sum_word(a: u64, b: u64) -> u64
-    ensures { result ≡ sign_extend_of 32 (sum_of a b) }
+    ensures { result ≡ sum_word_of a b }
 {
     from_32(sum(a, b))
 }
 
 pub fn difference_word(a: u64, b: u64) -> u64
-    ensures { result ≡ sign_extend_of 32 (difference_of a b) }
+    ensures { result ≡ difference_word_of a b }
 {
     from_32(difference(a, b))
 }

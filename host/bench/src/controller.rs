@@ -11,7 +11,7 @@ mod words;
 
 use crate::programs::{entry, place, start_in_user, Program, PAGE, R, W, X};
 use formats::csr::field::SSE;
-use sporhulma::{word, Hart, Map, BASE, MOST_STEPS};
+use sporhulma::{word, Hart, BASE, MOST_STEPS};
 
 /// Pages of memory, and entries of the map: more than the 16 that the desk lays out for examples/c/controller.c, with its heap and stacks,
 /// and fewer than the 64 that there can be.
@@ -49,7 +49,7 @@ fn program(name: &'static str, first: u64) -> Program {
         name,
         hart,
         memory,
-        map: Map::new(),
+        map: Vec::new(),
         most: MOST_STEPS,
     }
 }
@@ -68,7 +68,7 @@ pub fn in_user() -> Program {
     program.hart.rest[word::SENVCFG] = SSE;
     program.hart.rest[word::SSP] = top(start, SHADOW);
     program.map = (0..ENTRIES)
-        .map(|n| entry(FIRST + n as u64, n as u64, rights(n)))
+        .flat_map(|n| entry(FIRST + n as u64, n as u64, rights(n)))
         .collect();
     program
 }
@@ -137,7 +137,7 @@ mod tests {
                 assert_eq!(kept[16..16 + numbers.len()], numbers, "{}", p.name);
             }
             let pushed = p.memory[SHADOW * PAGE..].iter().any(|&b| b != 0);
-            assert_eq!(pushed, !p.map.pages.is_empty(), "{}", p.name);
+            assert_eq!(pushed, !p.map.is_empty(), "{}", p.name);
         }
     }
 }

@@ -17,7 +17,7 @@
 
 use crate::encode::*;
 use crate::programs::{bare, entry, start_in_user, Program, PAGE, R, W, X};
-use sporhulma::{Map, BASE};
+use sporhulma::BASE;
 
 /// Where these stand in the page of data: the section's coefficients (30 bits behind the point), the gain (60), the samples of a block
 /// and what comes of them (31).
@@ -172,7 +172,7 @@ pub fn in_machine() -> Program {
 pub fn in_user() -> Program {
     let mut program = filter("fixed-point filter, Sv39, 2 entries", 0x11 * PAGE as u64);
     start_in_user(&mut program.hart, 0x10);
-    program.map = Map::from([entry(0x10, 0, R | X), entry(0x11, 1, R | W)]);
+    program.map = [entry(0x10, 0, R | X), entry(0x11, 1, R | W)].concat();
     program
 }
 

@@ -7,7 +7,7 @@ use formats::csr::field::{MLPE, MPP, SSE, SV39};
 use formats::csr::{MEPC, MSCRATCH, SSCRATCH};
 use formats::leaf::{self, A, D, FRAME_SHIFT, U, V};
 pub use formats::leaf::{R, W, X};
-use sporhulma::{word, Hart, Map, BASE, MOST_STEPS};
+use sporhulma::{word, Hart, BASE, MOST_STEPS};
 
 pub const PAGE: usize = leaf::PAGE as usize;
 
@@ -15,7 +15,7 @@ pub struct Program {
     pub name: &'static str,
     pub hart: Hart,
     pub memory: Vec<u8>,
-    pub map: Map,
+    pub map: Vec<u64>,
     /// Steps that one call takes at most; the next call goes on.
     pub most: u64,
 }
@@ -27,7 +27,7 @@ pub fn bare(name: &'static str, code: &[u32]) -> Program {
     hart.x[2] = BASE + data as u64;
     let mut memory = vec![0; data + PAGE];
     place(&mut memory, 0, code);
-    let map = Map::new();
+    let map = Vec::new();
     Program {
         name,
         hart,
@@ -44,9 +44,11 @@ pub fn place(memory: &mut [u8], at: usize, code: &[u32]) {
 }
 
 /// An entry of the map: memory's page `frame`, for U, with these rights.
-pub fn entry(page: u64, frame: u64, may: u64) -> (u32, u64) {
-    let leaf = ((BASE / leaf::PAGE + frame) << FRAME_SHIFT) | V | A | D | U | may;
-    (page as u32, leaf)
+pub fn entry(page: u64, frame: u64, may: u64) -> [u64; 2] {
+    [
+        page,
+        ((BASE / leaf::PAGE + frame) << FRAME_SHIFT) | V | A | D | U | may,
+    ]
 }
 
 /// In U under Sv39, at the first byte of a page.
@@ -143,7 +145,7 @@ pub fn calls(name: &'static str, entries: usize) -> Program {
     let page = |k: usize| 0x10 + used[k] as u64;
     let rights = [R | X, R | W, R | W, W];
     let map = (0..entries)
-        .map(|n| {
+        .flat_map(|n| {
             let own = used.iter().position(|&u| u == n).unwrap_or(1);
             entry(0x10 + n as u64, own as u64, rights[own])
         })

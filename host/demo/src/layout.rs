@@ -3,7 +3,7 @@
 use crate::image::symbol;
 use formats::csr::field::{SSE, SV39};
 use formats::leaf::{A, D, FRAME_SHIFT, PAGE, R, U, V, W, X};
-use sporhulma::{word, Hart, Map, BASE};
+use sporhulma::{word, Hart, BASE};
 
 /// What a page lets the program do.
 const CODE: u64 = R | X;
@@ -28,12 +28,12 @@ pub enum Shadow {
     On,
 }
 
-/// The page map, as the hart takes it.
-pub fn map() -> Map {
+/// The page map, as the hart takes it: two words a page.
+pub fn map() -> Vec<u64> {
     let leaf = |frame: u64, may: u64| (BASE / PAGE + frame) << FRAME_SHIFT | may | V | U | A | D;
     (0..)
         .zip(PAGES)
-        .map(|(frame, (page, may))| ((page / PAGE) as u32, leaf(frame, may)))
+        .flat_map(|(frame, (page, may))| [page / PAGE, leaf(frame, may)])
         .collect()
 }
 

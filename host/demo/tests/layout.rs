@@ -1,7 +1,5 @@
 //! examples/torque/torque.map, for `./desk run`, has the pages with which the demo runs.
 
-use sporhulma::Map;
-
 const MAP: &str = include_str!("../../../examples/torque/torque.map");
 
 fn number(text: &str) -> u64 {
@@ -9,7 +7,7 @@ fn number(text: &str) -> u64 {
 }
 
 /// Page number and leaf of a line `VIRTUAL -> PHYSICAL FLAGS`; V, A and D are set unless it says otherwise.
-fn entry(line: &str) -> (u32, u64) {
+fn entry(line: &str) -> [u64; 2] {
     let words: Vec<&str> = line.split_whitespace().collect();
     let [page, "->", frame, may, "u"] = words[..] else {
         panic!("not a line of this map: {line}")
@@ -20,8 +18,10 @@ fn entry(line: &str) -> (u32, u64) {
         "shadow" => 0b0100,
         _ => panic!("not a permission of this map: {may}"),
     };
-    let leaf = number(frame) >> 12 << 10 | bits | 0b1101_0001;
-    ((number(page) >> 12) as u32, leaf)
+    [
+        number(page) >> 12,
+        number(frame) >> 12 << 10 | bits | 0b1101_0001,
+    ]
 }
 
 #[test]
@@ -29,6 +29,9 @@ fn the_map_file_is_the_demos_map() {
     let lines = MAP
         .lines()
         .map(|line| line.split('#').next().unwrap().trim());
-    let map: Map = lines.filter(|line| !line.is_empty()).map(entry).collect();
-    assert_eq!(map, demo::layout::map());
+    let words: Vec<u64> = lines
+        .filter(|line| !line.is_empty())
+        .flat_map(entry)
+        .collect();
+    assert_eq!(words, demo::layout::map());
 }

@@ -271,8 +271,8 @@ impl<'a> Drive<'a> {
         let answer = self.state.steps(self.map, budget);
         if answer.refusal != 0 {
             let length = self.state.mem.len() as u64;
-            let map = &self.map.columns;
-            let why = refusal::explain(answer.refusal, &self.state.hart, length, map, budget);
+            let words = &self.map.words;
+            let why = refusal::explain(answer.refusal, &self.state.hart, length, words, budget);
             return Err(Failure::Input(why));
         }
         self.count += answer.count;

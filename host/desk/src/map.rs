@@ -9,7 +9,6 @@ use crate::failure::Failure;
 use crate::number::number;
 use formats::leaf::{self, FRAME, FRAME_SHIFT, NUMBERS, R, V, W, X};
 pub use formats::leaf::{A, D, ENTRIES as MOST, PAGE};
-use sporhulma::Map;
 
 /// Bits 0 to 7 of a leaf, by the letters that stand for them.
 const LETTERS: [char; 8] = ['v', 'r', 'w', 'x', 'u', 'g', 'a', 'd'];
@@ -28,11 +27,6 @@ impl Entry {
     /// The physical address of the frame (bits 53:10 of the leaf are its number).
     pub fn frame(&self) -> u64 {
         ((self.leaf & FRAME) >> FRAME_SHIFT) * PAGE
-    }
-
-    /// What the hart's two columns have of it.
-    pub fn columns(&self) -> (u32, u64) {
-        (self.page as u32, self.leaf)
     }
 
     /// The virtual address of the page, bits 63:39 as bit 38.
@@ -69,11 +63,11 @@ impl Entry {
     }
 }
 
-/// The entries in rising order of their pages, and the same as the columns that the hart takes.
+/// The entries in rising order of their pages, and the same as the words that the hart takes.
 #[derive(Clone, Debug, Default)]
 pub struct PageMap {
     pub entries: Vec<Entry>,
-    pub columns: Map,
+    pub words: Vec<u64>,
 }
 
 impl PageMap {
@@ -110,8 +104,11 @@ impl PageMap {
             return Err(Failure::at(&format!("{file}:{line}"), wrong));
         }
         entries.sort_by_key(|entry| entry.page);
-        let columns = entries.iter().map(Entry::columns).collect();
-        Ok(PageMap { entries, columns })
+        let words = entries
+            .iter()
+            .flat_map(|entry| [entry.page, entry.leaf])
+            .collect();
+        Ok(PageMap { entries, words })
     }
 }
 
@@ -271,7 +268,7 @@ mod tests {
     use super::*;
 
     fn leaf(line: &str) -> u64 {
-        PageMap::parse("m", line).unwrap().columns.leaves[0]
+        PageMap::parse("m", line).unwrap().words[1]
     }
 
     #[test]
@@ -296,7 +293,7 @@ mod tests {
         let map = PageMap::parse("m", map).unwrap();
         let seen: Vec<_> = map.entries.iter().map(|e| (e.address(), e.line)).collect();
         assert_eq!(seen, [(0x1000, 4), (0xffff_ffc0_0000_0000, 2)]);
-        assert_eq!(map.columns.pages[1], 0x400_0000);
+        assert_eq!(map.words[2], 0x400_0000);
         assert_eq!(
             map.entries[1].text(),
             "0xffffffc000000000 -> 0x80002000 vrw---ad"

@@ -51,7 +51,7 @@ pub fn by_the_rules(hart: &Hart) -> second::Hart {
 
 /// Follows an access through the nine rules.
 pub fn follow(hart: &Hart, length: u64, map: &PageMap, access: Access) -> Path {
-    let way = second::path(&by_the_rules(hart), &map.columns, length as usize, access);
+    let way = second::path(&by_the_rules(hart), &map.words, length as usize, access);
     let masked = match access.kind {
         Kind::Fetch => access.address,
         _ => way.regime.masked(access.address),

@@ -5,7 +5,7 @@
 use crate::map::MOST;
 use formats::csr::field::*;
 use formats::leaf::PAGE;
-use sporhulma::{word, Hart, Map, MOST_STEPS, MSTATUS_CLEAR, REST};
+use sporhulma::{word, Hart, MOST_STEPS, MSTATUS_CLEAR, REST};
 
 /// Most bytes of memory that a call takes.
 pub const MEMORY: u64 = 1 << 20;
@@ -33,17 +33,17 @@ pub fn memory(length: u64) -> Option<String> {
 }
 
 /// Why a map is refused.
-fn map(Map { pages, leaves }: &Map) -> Option<String> {
-    if pages.len() != leaves.len() {
+fn map(words: &[u64]) -> Option<String> {
+    if words.len() % 2 == 1 {
+        return Some(format!("the map has {} words, an odd number", words.len()));
+    }
+    if words.len() > 2 * MOST {
         return Some(format!(
-            "the map has {} page numbers and {} leaves; give each page its leaf",
-            pages.len(),
-            leaves.len()
+            "the map has {} entries, over {MOST}",
+            words.len() / 2
         ));
     }
-    if pages.len() > MOST {
-        return Some(format!("the map has {} entries, over {MOST}", pages.len()));
-    }
+    let pages: Vec<u64> = words.iter().step_by(2).copied().collect();
     if let Some(page) = pages.iter().find(|&&page| page >> 27 != 0) {
         return Some(format!("page number {page:#x} has more than 27 bits"));
     }
@@ -145,14 +145,14 @@ fn hart(hart: &Hart) -> Vec<String> {
 }
 
 /// The line that says why the hart refused what it was given.
-pub fn explain(number: u64, given: &Hart, length: u64, lent: &Map, budget: u64) -> String {
+pub fn explain(number: u64, given: &Hart, length: u64, words: &[u64], budget: u64) -> String {
     let reasons = match number {
         1 => hart(given),
         2 => memory(length)
             .map(|wrong| format!("--memory: {wrong}"))
             .into_iter()
             .collect(),
-        3 => map(lent)
+        3 => map(words)
             .map(|wrong| format!("--map: {wrong}"))
             .into_iter()
             .collect(),
@@ -178,8 +178,7 @@ mod tests {
         odd.x[0] = 1;
         odd.rest[word::MODE] = 2;
         odd.rest[word::MSTATUS] |= 2 << 11;
-        let none = &Map::new();
-        let line = explain(1, &odd, 4096, none, 0);
+        let line = explain(1, &odd, 4096, &[], 0);
         for part in [
             "--x zero: it is 0x1",
             "--mode: 2 is no mode",
@@ -187,33 +186,13 @@ mod tests {
         ] {
             assert!(line.contains(part), "{line}");
         }
-        assert!(explain(2, &fresh, 1 << 21, none, 0).contains("2097152 is over 1048576"));
-        assert!(explain(4, &fresh, 4096, none, 1_000_001).contains("1000001 steps is over 1000000"));
-        assert!(explain(1, &fresh, 4096, none, 0).contains("a fault of the desk"));
-    }
-
-    /// The hart itself is asked too: it refuses these maps.
-    #[test]
-    fn each_rule_of_a_map_is_named() {
-        let uneven = |pages: usize, leaves: usize| Map {
-            pages: vec![0; pages],
-            leaves: vec![0; leaves],
-        };
-        let many = (0..65).map(|page| (page, 0)).collect();
-        for (map, part) in [
-            (uneven(1, 0), "1 page numbers and 0 leaves"),
-            (uneven(0, 2), "0 page numbers and 2 leaves"),
-            (many, "65 entries, over 64"),
-            (Map::from([(1 << 27, 0)]), "0x8000000 has more than 27 bits"),
-            (Map::from([(u32::MAX, 0)]), "0xffffffff has more than"),
-            (Map::from([(2, 0), (2, 1)]), "0x2 does not rise above 0x2"),
-            (Map::from([(3, 0), (2, 1)]), "0x2 does not rise above 0x3"),
-        ] {
-            let (mut hart, mut mem) = (Hart::fresh(), [0; 4096]);
-            assert_eq!(sporhulma::run(&mut hart, &mut mem, &map, 0).refusal, 3);
-            let line = explain(3, &hart, 4096, &map, 0);
-            assert!(line.starts_with("--map: ") && line.contains(part), "{line}");
-        }
+        assert!(explain(2, &fresh, 1 << 21, &[], 0).contains("2097152 is over 1048576"));
+        assert!(explain(3, &fresh, 4096, &[1], 0).contains("1 words, an odd number"));
+        assert!(explain(3, &fresh, 4096, &[1 << 27, 0], 0).contains("more than 27 bits"));
+        assert!(explain(3, &fresh, 4096, &[2, 0, 2, 0], 0).contains("0x2 does not rise above 0x2"));
+        assert!(explain(3, &fresh, 4096, &[0; 130], 0).contains("65 entries, over 64"));
+        assert!(explain(4, &fresh, 4096, &[], 1_000_001).contains("1000001 steps is over 1000000"));
+        assert!(explain(1, &fresh, 4096, &[], 0).contains("a fault of the desk"));
     }
 
     /// The hart itself is asked: what it takes has no line here, what it refuses has one.
@@ -224,8 +203,7 @@ mod tests {
             for bit in 0..64 {
                 let mut odd = Hart::fresh();
                 odd.rest[index] ^= 1 << bit;
-                let refused =
-                    sporhulma::run(&mut odd.clone(), &mut mem, &Map::new(), 0).refusal == 1;
+                let refused = sporhulma::run(&mut odd.clone(), &mut mem, &[], 0).refusal == 1;
                 assert_eq!(refused, !hart(&odd).is_empty(), "{name} bit {bit}");
             }
         }
@@ -244,7 +222,7 @@ mod tests {
                 let digits = last.trim_end_matches(|c: char| !c.is_ascii_hexdigit());
                 let mut hart = Hart::fresh();
                 hart.rest[index] = u64::from_str_radix(digits, 16).unwrap();
-                let refusal = sporhulma::run(&mut hart, &mut mem, &Map::new(), 0).refusal;
+                let refusal = sporhulma::run(&mut hart, &mut mem, &[], 0).refusal;
                 assert_eq!(refusal, 0, "{}: {line}", REST[index]);
             }
         }

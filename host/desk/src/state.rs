@@ -37,8 +37,8 @@ impl State {
     pub fn steps(&mut self, map: &PageMap, budget: u64) -> Answer {
         let given = self.given.take_if(|_| budget > 0);
         match given {
-            Some(word) => sporhulma::step_word(&mut self.hart, &mut self.mem, &map.columns, word),
-            None => sporhulma::run(&mut self.hart, &mut self.mem, &map.columns, budget),
+            Some(word) => sporhulma::step_word(&mut self.hart, &mut self.mem, &map.words, word),
+            None => sporhulma::run(&mut self.hart, &mut self.mem, &map.words, budget),
         }
     }
 

@@ -5,7 +5,7 @@ mod common;
 
 use common::json::Value;
 use common::*;
-use sporhulma::{word, Hart, Map, BASE};
+use sporhulma::{word, Hart, BASE};
 use std::collections::BTreeSet;
 use std::sync::OnceLock;
 
@@ -25,7 +25,13 @@ fn memory() -> &'static [u8] {
 }
 
 /// One step of the proved hart with its registers at the page: a given word, or one that it fetches there. Nothing if it traps.
-fn step(hart: &Hart, map: &Map, page: u64, word: Option<u32>, ra: u64) -> Option<(Hart, Vec<u8>)> {
+fn step(
+    hart: &Hart,
+    map: &[u64],
+    page: u64,
+    word: Option<u32>,
+    ra: u64,
+) -> Option<(Hart, Vec<u8>)> {
     let (mut hart, mut mem) = (*hart, memory().to_vec());
     (hart.x[1], hart.x[10], hart.x[11], hart.x[12]) = (ra, u64::MAX, page, page);
     hart.rest[word::PC] = page;
@@ -51,7 +57,7 @@ fn changed(mem: &[u8]) -> Option<u64> {
 const SWAP: u32 = 0x48b6_352f; // ssamoswap.d a0,a1,(a2)
 
 /// The frame that a user program comes to by an access at a page, if the proved hart lets it.
-fn reached(hart: &Hart, map: &Map, page: u64, access: &str) -> Option<u64> {
+fn reached(hart: &Hart, map: &[u64], page: u64, access: &str) -> Option<u64> {
     let after = |word, ra| step(hart, map, page, word, ra);
     let loaded = |a0| (0..FRAMES).find(|&frame| content(frame) == a0);
     match access {
@@ -86,14 +92,11 @@ type Reach = BTreeSet<(u64, String, u64)>;
 
 /// All that the proved hart lets a user program do by a map.
 fn reach(hart: &Hart, map: &[(u64, u64)]) -> Reach {
-    let columns = map
-        .iter()
-        .map(|&(page, leaf)| (page as u32, leaf))
-        .collect();
+    let words: Vec<u64> = map.iter().flat_map(|&(page, leaf)| [page, leaf]).collect();
     let mut reach = Reach::new();
     for page in map.iter().map(|entry| address(entry.0)) {
         for access in ACCESSES {
-            let frame = reached(hart, &columns, page, access);
+            let frame = reached(hart, &words, page, access);
             reach.extend(frame.map(|frame| (page, access.to_string(), BASE + frame * 4096)));
         }
     }

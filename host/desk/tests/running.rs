@@ -89,7 +89,7 @@ fn chained_calls_are_one_long_run() {
     mem.resize(4096, 0);
     for budget in [1_000_000, 1_000_000, 500_002] {
         assert_eq!(
-            sporhulma::run(&mut hart, &mut mem, &sporhulma::Map::new(), budget).count,
+            sporhulma::run(&mut hart, &mut mem, &[], budget).count,
             budget
         );
     }

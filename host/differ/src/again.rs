@@ -1,6 +1,6 @@
 //! The steps of a call taken again one by one with the second simulator, for those who count what a call did.
 
-use crate::case::{Call, Case, Map, BASE, PAGE};
+use crate::case::{Call, Case, BASE, PAGE};
 use crate::named::{leaf, place};
 use crate::simulator::{Second, Simulator};
 use crate::state::View;
@@ -40,13 +40,13 @@ pub fn take_again(case: &Case, steps: u64, memory: &mut Vec<u8>, mut look: impl 
 }
 
 /// The word at pc: where Sv39 is in force the one that the map leads to, if there is one, whatever its leaf allows.
-pub fn word_at(hart: &Hart, mem: &[u8], map: &Map) -> Option<u32> {
+pub fn word_at(hart: &Hart, mem: &[u8], map: &[u64]) -> Option<u32> {
     let bytes = mem.get(place_at(hart, map)?..)?.first_chunk()?;
     Some(u32::from_le_bytes(*bytes))
 }
 
 /// The place in memory that pc leads to, if memory is so long.
-pub fn place_at(hart: &Hart, map: &Map) -> Option<usize> {
+pub fn place_at(hart: &Hart, map: &[u64]) -> Option<usize> {
     let pc = hart.rest[PC];
     let at = if View::of(&hart.rest).fetch.paged {
         let frame = place(leaf(map, pc)?);

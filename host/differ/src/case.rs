@@ -3,13 +3,13 @@
 use sporhulma::Hart;
 
 pub use formats::leaf::PAGE;
-pub use sporhulma::{Call, Map, BASE};
+pub use sporhulma::{Call, BASE};
 
 #[derive(Clone, PartialEq, Eq, Debug)]
 pub struct Case {
     pub hart: Hart,
     pub mem: Vec<u8>,
-    pub map: Map,
+    pub map: Vec<u64>,
     pub call: Call,
 }
 
@@ -18,7 +18,7 @@ impl Case {
         Case {
             hart: Hart::fresh(),
             mem: Vec::new(),
-            map: Map::new(),
+            map: Vec::new(),
             call: Call::Step,
         }
     }

@@ -1,7 +1,7 @@
 //! Pairs of memories for rules 13.10 to 13.15: one user's hart and map, and two memories that differ in every byte of each frame
 //! that no valid entry with its U bit names. Pair `number` of a seed is made without the pairs before it.
 
-use crate::case::{Call, Case, Map, BASE, PAGE};
+use crate::case::{Call, Case, BASE, PAGE};
 use crate::instruction::instruction;
 use crate::maker::Maker;
 use crate::named::{named, users};
@@ -154,8 +154,10 @@ impl Scene {
         } else {
             random.below(NUMBERS)
         };
-        if let Err(at) = case.map.pages.binary_search(&(number as u32)) {
-            case.map.insert(at, number as u32, word);
+        let numbers = case.map.iter().step_by(2);
+        let at = 2 * numbers.take_while(|other| **other < number).count();
+        if case.map.get(at) != Some(&number) {
+            case.map.splice(at..at, [number, word]);
         }
     }
 }
@@ -184,10 +186,13 @@ fn program(random: &mut Random, scene: &Scene, case: &mut Case) -> Vec<u32> {
 
 /// The number of a page of the map: of two that are drawn the second, unless a user cannot reach the first.
 fn foreign_page(random: &mut Random, case: &Case) -> u64 {
-    let Map { pages, leaves } = &case.map;
-    let [one, other] = [(); 2].map(|()| random.below(pages.len() as u64) as usize);
-    let closed = !users(leaves[one], case.hart.rest[MENVCFG]);
-    pages[if closed { one } else { other }].into()
+    let entries = case.map.len() as u64 / 2;
+    let [one, other] = [(); 2].map(|()| 2 * random.below(entries) as usize);
+    if users(case.map[one + 1], case.hart.rest[MENVCFG]) {
+        case.map[other]
+    } else {
+        case.map[one]
+    }
 }
 
 fn run(random: &mut Random, scene: &Scene, case: &mut Case) {

@@ -2,7 +2,7 @@
 
 use crate::simulator::by_second;
 use crate::state::SV39;
-use second::{Access, Columns, Kind, Path};
+use second::{Access, Kind, Path};
 use sporhulma::word::SATP;
 use sporhulma::Hart;
 use std::collections::BTreeMap;
@@ -87,7 +87,7 @@ impl Lifted {
         let Some(access) = second::access(&own, word) else {
             return;
         };
-        let path = second::path(&own, Columns::default(), 0, access);
+        let path = second::path(&own, &[], 0, access);
         let Some(kind) = name(access.kind).filter(|_| path.regime.spared) else {
             return;
         };

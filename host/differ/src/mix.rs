@@ -4,7 +4,6 @@ use crate::added::Added;
 use crate::again::take_again;
 use crate::case::{Call, Case};
 use crate::lifted::Lifted;
-use crate::maps::Maps;
 use crate::pair::Side;
 use crate::state::View;
 use sporhulma::family::{EBREAK, ECALL, ILLEGAL};
@@ -52,8 +51,6 @@ pub struct Mix {
     families_untrapped: [u64; 24],
     causes: [u64; CAUSES],
     refusals: [u64; 5],
-    /// Of steps and calls of runs.
-    maps: Maps,
     runs: u64,
     run_calls: u64,
     run_traps: u64,
@@ -79,7 +76,6 @@ impl Mix {
         self.steps += 1;
         self.given_words += u64::from(matches!(case.call, Call::StepWord(_)));
         let Some(answer) = left.answer else { return };
-        self.maps.note(&case.map, answer.refusal);
         if answer.refusal != 0 {
             self.note_refusal(answer.refusal);
             return;
@@ -102,7 +98,6 @@ impl Mix {
         self.runs += u64::from(first);
         self.run_calls += 1;
         let Some(answer) = left.answer else { return };
-        self.maps.note(&case.map, answer.refusal);
         if answer.refusal != 0 {
             self.note_refusal(answer.refusal);
             return;
@@ -171,7 +166,6 @@ impl Mix {
         }
         complaints.extend(self.lifted.complaint(self.steps));
         complaints.extend(self.added.complaint());
-        complaints.extend(self.maps.complaint());
         if runs {
             complaints.extend(self.run_added.complaint_of_runs());
         }
@@ -184,7 +178,7 @@ impl Mix {
         complaints
     }
 
-    /// Under forty lines.
+    /// Under thirty lines.
     pub fn text(&self) -> String {
         let mut text = self.steps_text();
         let _ = writeln!(
@@ -210,9 +204,6 @@ impl Mix {
         list(&mut text, "", counts, 8);
         let refusals = (1..5).map(|number| format!("{number}: {}", self.refusals[number]));
         list(&mut text, "refusals", refusals.collect(), 4);
-        let [accepted, refused] = self.maps.text();
-        list(&mut text, "A10", accepted, 8);
-        list(&mut text, "  refused", refused, 6);
         let _ = writeln!(
             text,
             "traps      of steps and runs: to S {}, to M {}",

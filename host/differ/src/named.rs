@@ -2,7 +2,7 @@
 //!
 //! The second simulator says which leaves are pages (docs/HART.md, 7.5), and the tests below hold it to that.
 
-use crate::case::{Map, BASE, PAGE};
+use crate::case::{BASE, PAGE};
 use crate::world::{FRAME, U};
 
 /// Step 5: whether the leaf is accepted as a page's. W alone is a shadow page, which there is only while menvcfg.SSE is 1.
@@ -21,10 +21,10 @@ pub fn place(leaf: u64) -> u64 {
 }
 
 /// Of each frame of memory, the last one perhaps cut short, whether a valid entry with its U bit names it.
-pub fn named(map: &Map, menvcfg: u64, bytes: usize) -> Vec<bool> {
+pub fn named(map: &[u64], menvcfg: u64, bytes: usize) -> Vec<bool> {
     let mut named = vec![false; bytes.div_ceil(PAGE as usize)];
-    for (_, leaf) in map.entries().filter(|entry| users(entry.1, menvcfg)) {
-        if let Some(frame) = named.get_mut(place(leaf) as usize) {
+    for entry in map.chunks_exact(2).filter(|entry| users(entry[1], menvcfg)) {
+        if let Some(frame) = named.get_mut(place(entry[1]) as usize) {
             *frame = true;
         }
     }
@@ -32,7 +32,7 @@ pub fn named(map: &Map, menvcfg: u64, bytes: usize) -> Vec<bool> {
 }
 
 /// The leaf of a virtual address, if it is one of Sv39's and the map has its page.
-pub fn leaf(map: &Map, address: u64) -> Option<u64> {
+pub fn leaf(map: &[u64], address: u64) -> Option<u64> {
     second::entry(map, address)
 }
 
@@ -62,7 +62,7 @@ mod tests {
 
     #[test]
     fn a_frame_is_named_by_a_valid_entry_with_u_alone() {
-        let named = |leaf: u64| named(&Map::from([(7, leaf)]), SSE, 3 * PAGE as usize);
+        let named = |leaf: u64| named(&[7, leaf], SSE, 3 * PAGE as usize);
         let second = FIRST + (1 << 10);
         assert_eq!(named(second | V | R | U), [false, true, false]);
         assert_eq!(named(second | V | W | U), [false, true, false]);
@@ -74,13 +74,13 @@ mod tests {
 
     #[test]
     fn a_frame_without_u_is_named_by_another_entry() {
-        let map = Map::from([(7, FIRST | V | R | W), (8, FIRST | V | R | U)]);
+        let map = [7, FIRST | V | R | W, 8, FIRST | V | R | U];
         assert_eq!(named(&map, 0, PAGE as usize + 1), [true, false]);
     }
 
     #[test]
     fn an_address_finds_its_leaf() {
-        let map = Map::from([(7, V), (NUMBERS as u32 - 1, V | R)]);
+        let map = [7, V, NUMBERS - 1, V | R];
         assert_eq!(leaf(&map, 7 * PAGE + 5), Some(V));
         assert_eq!(leaf(&map, 8 * PAGE), None);
         assert_eq!(leaf(&map, u64::MAX), Some(V | R));

@@ -111,7 +111,7 @@ pub fn words_that_differ(left: &Hart, right: &Hart) -> Vec<String> {
 #[cfg(test)]
 mod tests {
     use super::*;
-    use crate::case::{Call, Map};
+    use crate::case::Call;
     use crate::simulator::Second;
 
     /// Second, with one bit of what it leaves turned.
@@ -125,7 +125,7 @@ mod tests {
     }
 
     impl Simulator for Turned {
-        fn call(&self, call: Call, hart: &mut Hart, mem: &mut [u8], map: &Map) -> Answer {
+        fn call(&self, call: Call, hart: &mut Hart, mem: &mut [u8], map: &[u64]) -> Answer {
             let mut answer = Second.call(call, hart, mem, map);
             match *self {
                 Turned::Word(word, bit) if word < 32 => hart.x[word] ^= 1 << bit,
@@ -189,7 +189,7 @@ mod tests {
     struct Panics;
 
     impl Simulator for Panics {
-        fn call(&self, _: Call, _: &mut Hart, _: &mut [u8], _: &Map) -> Answer {
+        fn call(&self, _: Call, _: &mut Hart, _: &mut [u8], _: &[u64]) -> Answer {
             panic!("planted")
         }
     }

@@ -1,6 +1,5 @@
 //! What a step reaches for in memory, and how that goes: its fetch, and the access of its word. The second simulator says both.
 
-use crate::case::Map;
 use crate::simulator::by_second;
 use second::{access, path, Access, Kind, Path};
 use sporhulma::Hart;
@@ -20,7 +19,7 @@ pub struct Reach {
 }
 
 impl Reach {
-    fn new(hart: &second::Hart, map: &Map, size: usize, access: Access) -> Reach {
+    fn new(hart: &second::Hart, map: &[u64], size: usize, access: Access) -> Reach {
         Reach {
             kind: KINDS[access.kind as usize],
             access,
@@ -30,7 +29,7 @@ impl Reach {
 }
 
 /// A step's fetch.
-pub fn fetch(hart: &Hart, map: &Map, size: usize) -> Reach {
+pub fn fetch(hart: &Hart, map: &[u64], size: usize) -> Reach {
     let hart = by_second(hart);
     let access = Access {
         kind: Kind::Fetch,
@@ -41,7 +40,7 @@ pub fn fetch(hart: &Hart, map: &Map, size: usize) -> Reach {
 }
 
 /// The access that a word makes.
-pub fn reach(hart: &Hart, map: &Map, size: usize, word: u32) -> Option<Reach> {
+pub fn reach(hart: &Hart, map: &[u64], size: usize, word: u32) -> Option<Reach> {
     let hart = by_second(hart);
     let access = access(&hart, word)?;
     Some(Reach::new(&hart, map, size, access))

@@ -14,7 +14,7 @@ use sporhulma::MOST_STEPS;
 type Rule = fn(&mut Random, &mut Case, broken: bool);
 
 /// The rules of refusals 1 to 3; those that have many ways to be broken stand more than once.
-const RULES: [Rule; 18] = [
+const RULES: [Rule; 16] = [
     register_zero,
     forbidden_bit,
     forbidden_bit,
@@ -25,9 +25,7 @@ const RULES: [Rule; 18] = [
     mode,
     memory_length,
     memory_length,
-    map_uneven,
-    map_uneven,
-    map_long,
+    map_odd,
     map_long,
     map_number,
     map_number,
@@ -132,47 +130,41 @@ fn memory_length(random: &mut Random, case: &mut Case, broken: bool) {
     case.mem.resize(if broken { wrong } else { right }, 0x5A);
 }
 
-/// One column longer than the other, by one entry or all that it has; kept, both are as long as the shorter one.
-fn map_uneven(random: &mut Random, case: &mut Case, broken: bool) {
-    let entries = case.map.pages.len();
-    let shorter = random.pick(&[0, 1, entries, ENTRIES - 1, ENTRIES]);
-    lengthen(random, case, shorter + 1);
-    let (pages, leaves) = match (broken, random.chance(50)) {
-        (false, _) => (true, true),
-        (true, side) => (side, !side),
-    };
-    if pages {
-        case.map.pages.truncate(shorter);
+fn map_odd(random: &mut Random, case: &mut Case, broken: bool) {
+    let shorter = random.chance(50);
+    if !broken {
+        return;
     }
-    if leaves {
-        case.map.leaves.truncate(shorter);
+    if shorter && !case.map.is_empty() {
+        case.map.pop();
+    } else {
+        case.map.push(NUMBERS - 1);
     }
 }
 
 /// 65 entries beside 64.
 fn map_long(random: &mut Random, case: &mut Case, broken: bool) {
-    case.map.truncate(2);
+    case.map.truncate(4);
     let entries = if broken { ENTRIES + 1 } else { ENTRIES };
     lengthen(random, case, entries);
 }
 
 /// A page number of 2^27 or more beside 2^27 - 1, in the last entry.
 fn map_number(random: &mut Random, case: &mut Case, broken: bool) {
-    const LEAST: u32 = NUMBERS as u32;
-    let over = random.pick(&[LEAST, LEAST, LEAST + 1, 1 << 31, u32::MAX, u32::MAX]);
+    let over = random.pick(&[NUMBERS, NUMBERS, NUMBERS + 1, 1 << 52, u64::MAX]);
     lengthen(random, case, 1);
-    let last = case.map.pages.len() - 1;
-    case.map.pages[last] = if broken { over } else { LEAST - 1 };
+    let last = case.map.len() / 2 * 2 - 2;
+    case.map[last] = if broken { over } else { NUMBERS - 1 };
 }
 
 /// An entry with the number of the one before it, or a lower one, beside a number that rises by one.
 fn map_order(random: &mut Random, case: &mut Case, broken: bool) {
     let falls = random.chance(50);
+    case.map.truncate(4);
     lengthen(random, case, 2);
-    let pages = &mut case.map.pages;
-    let at = 1 + random.below(pages.len() as u64 - 1) as usize;
-    let before = pages[at - 1];
-    pages[at] = match (broken, falls && before > 0) {
+    let before = case.map[0].clamp(1, NUMBERS - 2);
+    case.map[0] = before;
+    case.map[2] = match (broken, falls) {
         (false, _) => before + 1,
         (true, false) => before,
         (true, true) => before - 1,
@@ -182,7 +174,7 @@ fn map_order(random: &mut Random, case: &mut Case, broken: bool) {
 #[cfg(test)]
 mod tests {
     use super::*;
-    use crate::case::{Map, PAGE};
+    use crate::case::PAGE;
     use crate::simulator::{Second, Simulator};
 
     /// Each rule is refused with its number when broken and accepted when kept.
@@ -209,7 +201,7 @@ mod tests {
         let mut random = Random::of(1, 2, draw);
         let mut case = Case::empty();
         case.fill(PAGE as usize, 1, 1);
-        case.map = Map::from([(5, 0xCF), (9, 0xCF)]);
+        case.map.extend([5, 0xCF, 9, 0xCF]);
         rule(&mut random, &mut case, broken);
         Second
             .call(case.call, &mut case.hart, &mut case.mem, &case.map)

@@ -4,7 +4,7 @@
 //! difference, only whether the test has seen enough.
 
 use crate::again::take_again;
-use crate::case::{Call, Case, Map};
+use crate::case::{Call, Case};
 use crate::hidden::Made;
 use crate::mix::list;
 use crate::named::{leaf, place, users, valid};
@@ -155,7 +155,7 @@ impl Seen {
     }
 
     /// Counts what became of an access. A fetch is done where the word was carried out, even if that trapped.
-    fn note_reach(&mut self, reach: &Reach, hart: &Hart, map: &Map, answer: &Answer) {
+    fn note_reach(&mut self, reach: &Reach, hart: &Hart, map: &[u64], answer: &Answer) {
         let kind = reach.kind;
         let stops = match kind {
             FETCH => [1, 12],
@@ -193,9 +193,9 @@ impl Seen {
         }
     }
 
-    fn note_special(&mut self, reach: &Reach, hart: &Hart, map: &Map, found: Option<u64>) {
+    fn note_special(&mut self, reach: &Reach, hart: &Hart, map: &[u64], found: Option<u64>) {
         let frame = found.map(place);
-        let leaves = || map.leaves.iter().copied();
+        let leaves = || map.chunks_exact(2).map(|entry| entry[1]);
         let others = || leaves().filter(move |leaf| Some(place(*leaf)) == frame);
         let menvcfg = hart.rest[MENVCFG];
         let users = others().filter(|leaf| users(*leaf, menvcfg)).count();
@@ -285,8 +285,7 @@ mod tests {
         case.hart.x[1] = 0x5800;
         case.hart.x[2] = 0x6800;
         let frame = 0x80000 << 10;
-        let other = (frame + (1 << 10)) | V | R | A | D;
-        case.map = Map::from([(5, frame | 0xDF), (6, other)]);
+        case.map = vec![5, frame | 0xDF, 6, (frame + (1 << 10)) | V | R | A | D];
         case.mem = words.iter().flat_map(|word| word.to_le_bytes()).collect();
         case.mem.resize(0x2000, 0);
         case

@@ -1,10 +1,10 @@
 //! The two simulators behind one small trait, so that the comparison can also be tried with an impostor.
 
-use crate::case::{Call, Map};
+use crate::case::Call;
 use sporhulma::{Answer, Hart};
 
 pub trait Simulator {
-    fn call(&self, call: Call, hart: &mut Hart, mem: &mut [u8], map: &Map) -> Answer;
+    fn call(&self, call: Call, hart: &mut Hart, mem: &mut [u8], map: &[u64]) -> Answer;
 }
 
 /// The proved one.
@@ -14,7 +14,7 @@ pub struct Proved;
 pub struct Second;
 
 impl Simulator for Proved {
-    fn call(&self, call: Call, hart: &mut Hart, mem: &mut [u8], map: &Map) -> Answer {
+    fn call(&self, call: Call, hart: &mut Hart, mem: &mut [u8], map: &[u64]) -> Answer {
         sporhulma::call(call, hart, mem, map)
     }
 }
@@ -25,7 +25,7 @@ pub fn by_second(hart: &Hart) -> second::Hart {
 }
 
 impl Simulator for Second {
-    fn call(&self, call: Call, hart: &mut Hart, mem: &mut [u8], map: &Map) -> Answer {
+    fn call(&self, call: Call, hart: &mut Hart, mem: &mut [u8], map: &[u64]) -> Answer {
         let mut own = by_second(hart);
         let answer = match call {
             Call::Step => second::step(&mut own, mem, map),

@@ -222,8 +222,8 @@ mod tests {
 
     #[test]
     fn an_empty_mix_has_nothing() {
-        assert_eq!(Mix::default().complaints(true).len(), 24 + 16 + 4 + 1 + 3);
-        assert_eq!(Mix::default().complaints(false).len(), 24 + 16 + 3 + 1 + 2);
+        assert_eq!(Mix::default().complaints(true).len(), 24 + 16 + 4 + 1 + 2);
+        assert_eq!(Mix::default().complaints(false).len(), 24 + 16 + 3 + 1 + 1);
         assert_eq!(Seen::default().complaints().len(), 30 + 14 + 14 + 7 + 4 + 1);
         let patched = patches::seen::Seen::default().complaints();
         assert_eq!(

@@ -1,11 +1,10 @@
 //! A case as text, written to a file when the simulators differ, and read back by `differ again`.
 //!
-//! A line each: the call; every word of the hart that is not 0 by its name; `map` with an entry's page number and leaf, and where a column of
-//! the map is longer `page` or `leaf` with what it has more;
+//! A line each: the call; every word of the hart that is not 0 by its name; `map` and an entry's one or two words;
 //! `memory` and its length; then an address and up to 32 bytes in hexadecimal, without the lines that are all 0.
 //! Lines that start with # are comments.
 
-use crate::case::{Call, Case, Map, BASE};
+use crate::case::{Call, Case, BASE};
 use formats::number::unsigned;
 use sporhulma::{Hart, REST};
 use std::fmt::Write;
@@ -33,7 +32,13 @@ pub fn write(case: &Case) -> String {
     for (name, value) in registers.chain(rest).filter(|(_, value)| **value != 0) {
         let _ = writeln!(text, "{name} {value:#x}");
     }
-    write_map(&mut text, &case.map);
+    for entry in case.map.chunks(2) {
+        text.push_str("map");
+        for word in entry {
+            let _ = write!(text, " {word:#x}");
+        }
+        text.push('\n');
+    }
     let _ = writeln!(text, "memory {}", case.mem.len());
     for (row, bytes) in case.mem.chunks(ROW).enumerate() {
         if bytes.iter().any(|byte| *byte != 0) {
@@ -45,18 +50,6 @@ pub fn write(case: &Case) -> String {
         }
     }
     text
-}
-
-fn write_map(text: &mut String, map: &Map) {
-    for (page, leaf) in map.entries() {
-        let _ = writeln!(text, "map {page:#x} {leaf:#x}");
-    }
-    for page in map.pages.iter().skip(map.leaves.len()) {
-        let _ = writeln!(text, "page {page:#x}");
-    }
-    for leaf in map.leaves.iter().skip(map.pages.len()) {
-        let _ = writeln!(text, "leaf {leaf:#x}");
-    }
 }
 
 /// Reads what `write` wrote. An error names the line and what would be right.
@@ -83,9 +76,8 @@ fn read_line(case: &mut Case, line: &str) -> Result<(), String> {
             case.call = Call::StepWord(word.map_err(|_| "a word has 32 bits".to_string())?);
         }
         ["call", "run", budget] => case.call = Call::Run(number(budget)?),
-        ["map", page, leaf] => case.map.push(page_number(page)?, number(leaf)?),
-        ["page", page] => case.map.pages.push(page_number(page)?),
-        ["leaf", leaf] => case.map.leaves.push(number(leaf)?),
+        ["map", word] => case.map.push(number(word)?),
+        ["map", first, second] => case.map.extend([number(first)?, number(second)?]),
         ["memory", len] => {
             let len = number(len)?;
             if len > MOST {
@@ -137,11 +129,6 @@ fn read_row(case: &mut Case, address: u64, digits: &str) -> Result<(), String> {
     Ok(())
 }
 
-/// A page number, which has 32 bits in a map.
-fn page_number(text: &str) -> Result<u32, String> {
-    u32::try_from(number(text)?).map_err(|_| format!("'{text}': a page number has 32 bits"))
-}
-
 /// A number of 64 bits.
 fn number(text: &str) -> Result<u64, String> {
     unsigned(text).map_err(|_| no_number(text))
@@ -183,9 +170,6 @@ mod tests {
             ("call step_word 0x100000000", "line 1: a word has 32 bits"),
             ("call jump", "line 1: 'call jump': right is"),
             ("map 1 2 3", "line 1: 'map 1 2 3': right is"),
-            ("map 1", "line 1: 'map' is no word"),
-            ("page 0x100000000", "line 1: '0x100000000': a page number"),
-            ("leaf", "line 1: 'leaf': right is"),
         ];
         for (text, start) in wrong {
             let error = read(text).expect_err(text);

@@ -1,6 +1,6 @@
 //! The pages of a case: one for each role, where it lies in memory, its virtual page number and its leaf in the map.
 
-use crate::case::{Case, Map, BASE, PAGE};
+use crate::case::{Case, BASE, PAGE};
 use formats::random::Random;
 
 /// What a page is for. The number is its place in `World::pages`.
@@ -64,11 +64,10 @@ impl World {
     }
 
     /// Whether the map leads from this page's number to its place in memory.
-    pub fn leads(&self, role: Role, map: &Map) -> bool {
+    pub fn leads(&self, role: Role, map: &[u64]) -> bool {
         let page = self.pages[role as usize];
-        let mut entries = map.entries();
-        let found = entries.find(|(number, _)| u64::from(*number) == page.number);
-        found.is_some_and(|(_, leaf)| leaf & FRAME == (BASE / PAGE + page.place) << 10)
+        let leaf = map.chunks_exact(2).find(|entry| entry[0] == page.number);
+        leaf.is_some_and(|leaf| leaf[1] & FRAME == (BASE / PAGE + page.place) << 10)
     }
 
     /// The place of a byte of a page in memory.
@@ -143,7 +142,7 @@ pub fn write_map(random: &mut Random, world: &World, wish: &Wish, mem_pages: u64
     entries.sort_unstable();
     case.map.clear();
     for (number, word) in entries {
-        case.map.push(number as u32, word);
+        case.map.extend([number, word]);
     }
 }
 
@@ -151,8 +150,11 @@ pub fn write_map(random: &mut Random, world: &World, wish: &Wish, mem_pages: u64
 pub fn resize_map(random: &mut Random, case: &mut Case) {
     match random.below(100) {
         0 => case.map.clear(),
-        1 => case.map.truncate(1),
-        2..=4 => case.map.remove(random.below(ROLES as u64) as usize),
+        1 => case.map.truncate(2),
+        2..=4 => {
+            let gone = 2 * random.below(ROLES as u64) as usize;
+            case.map.drain(gone..gone + 2);
+        }
         5 => lengthen(random, case, ENTRIES),
         6..=9 => {
             let entries = ROLES + random.below((ENTRIES - ROLES) as u64) as usize;
@@ -164,15 +166,16 @@ pub fn resize_map(random: &mut Random, case: &mut Case) {
 
 /// Adds entries after the last one, or where it leaves no room before the first one, until there are `entries`.
 pub fn lengthen(random: &mut Random, case: &mut Case, entries: usize) {
-    let Map { pages, leaves } = &mut case.map;
-    let missing = entries.saturating_sub(pages.len()) as u32;
-    let last = pages.last().copied().unwrap_or(0);
-    if u64::from(last) + u64::from(missing) < NUMBERS {
-        pages.extend(last + 1..=last + missing);
-        leaves.extend((0..missing).map(|_| random.word() >> random.pick(&[10, 54, 56])));
-    } else if pages[0] >= missing {
-        let first = pages[0] - missing;
-        pages.splice(0..0, first..first + missing);
-        leaves.splice(0..0, (0..missing.into()).map(|more| more << 10 | V | R | A));
+    let missing = entries.saturating_sub(case.map.len() / 2) as u64;
+    let last = case.map.len().checked_sub(2).map_or(0, |at| case.map[at]);
+    if last.saturating_add(missing) < NUMBERS {
+        for more in 1..=missing {
+            case.map
+                .extend([last + more, random.word() >> random.pick(&[10, 54, 56])]);
+        }
+    } else if case.map[0] >= missing {
+        let first = case.map[0] - missing;
+        let added = (0..missing).flat_map(|more| [first + more, more << 10 | V | R | A]);
+        case.map.splice(0..0, added);
     }
 }

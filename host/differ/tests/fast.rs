@@ -5,7 +5,7 @@
 //! pages too, 64 of each kind.
 
 use differ::again::{place_at, word_at, Step};
-use differ::case::{Call, Map, PAGE};
+use differ::case::{Call, PAGE};
 use differ::lifted::access;
 use differ::patches::store::{stored, Stored, PUSH};
 use differ::simulator::{Second, Simulator};
@@ -75,7 +75,7 @@ struct Memo {
 struct Fast(Fault);
 
 impl Simulator for Fast {
-    fn call(&self, call: Call, hart: &mut Hart, mem: &mut [u8], map: &Map) -> Answer {
+    fn call(&self, call: Call, hart: &mut Hart, mem: &mut [u8], map: &[u64]) -> Answer {
         let mut answer = Second.call(Call::Run(0), hart, mem, map);
         let budget = match call {
             Call::Run(budget) if answer.refusal == 0 && budget <= MOST_STEPS => budget,
@@ -97,7 +97,7 @@ impl Simulator for Fast {
 }
 
 impl Fast {
-    fn step(&self, memo: &mut Memo, hart: &mut Hart, mem: &mut [u8], map: &Map) -> Answer {
+    fn step(&self, memo: &mut Memo, hart: &mut Hart, mem: &mut [u8], map: &[u64]) -> Answer {
         let before = *hart;
         let (there, place) = (word_at(&before, mem, map), place_at(&before, map));
         let pc = before.rest[PC];
@@ -179,7 +179,7 @@ impl Fast {
 }
 
 /// The step by a remembered word that is no longer there, if the fast path does it.
-fn remembered(word: u32, hart: &mut Hart, mem: &mut [u8], map: &Map) -> Option<Answer> {
+fn remembered(word: u32, hart: &mut Hart, mem: &mut [u8], map: &[u64]) -> Option<Answer> {
     let (before, mut bytes) = (*hart, mem.to_vec());
     let mut after = before;
     let answer = Second.call(Call::StepWord(word), &mut after, &mut bytes, map);

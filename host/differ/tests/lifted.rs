@@ -2,7 +2,7 @@
 //!
 //! They are planted where the word is handed in, so that the wrapper knows it.
 
-use differ::case::{Call, Map};
+use differ::case::Call;
 use differ::lifted::access;
 use differ::simulator::{Second, Simulator};
 use differ::soak::{Failure, Soak};
@@ -21,7 +21,7 @@ type Rule = fn(&[u64; 20], &View, Kind) -> bool;
 struct Lifts(Rule);
 
 impl Simulator for Lifts {
-    fn call(&self, call: Call, hart: &mut Hart, mem: &mut [u8], map: &Map) -> Answer {
+    fn call(&self, call: Call, hart: &mut Hart, mem: &mut [u8], map: &[u64]) -> Answer {
         let (word, access) = match call {
             Call::StepWord(word) => (word, access(hart, word)),
             _ => (0, None),
@@ -39,7 +39,7 @@ impl Simulator for Lifts {
 }
 
 /// The access with its address masked before it is made.
-fn with_mask(word: u32, access: Access, hart: &mut Hart, mem: &mut [u8], map: &Map) -> Answer {
+fn with_mask(word: u32, access: Access, hart: &mut Hart, mem: &mut [u8], map: &[u64]) -> Answer {
     let call = Call::StepWord(word);
     let [rd, rs1, rs2] = [7, 15, 20].map(|at| (word >> at) as usize & 31);
     let reads_it_twice = access.kind != Kind::Load && rs1 == rs2;
@@ -61,7 +61,7 @@ fn with_mask(word: u32, access: Access, hart: &mut Hart, mem: &mut [u8], map: &M
 }
 
 /// The access with every PMM 0 while it is made.
-fn without_masks(word: u32, hart: &mut Hart, mem: &mut [u8], map: &Map) -> Answer {
+fn without_masks(word: u32, hart: &mut Hart, mem: &mut [u8], map: &[u64]) -> Answer {
     const MASKS: [usize; 3] = [SENVCFG, MENVCFG, MSECCFG];
     let stored = MASKS.map(|csr| hart.rest[csr]);
     // A PMM of 1 is refused, and must be.
@@ -175,7 +175,7 @@ fn lifted_below_m_by_both_bits() {
 struct MasksTval;
 
 impl Simulator for MasksTval {
-    fn call(&self, call: Call, hart: &mut Hart, mem: &mut [u8], map: &Map) -> Answer {
+    fn call(&self, call: Call, hart: &mut Hart, mem: &mut [u8], map: &[u64]) -> Answer {
         let view = View::of(&hart.rest);
         let answer = Second.call(call, hart, mem, map);
         let faulted = answer.trapped && [4, 5, 6, 7, 13, 15].contains(&answer.cause);

@@ -2,7 +2,7 @@
 //! word beside those of M and Zbb that the hart does not have is found where it is legal.
 
 use differ::again::word_at;
-use differ::case::{Call, Map};
+use differ::case::Call;
 use differ::simulator::{Second, Simulator};
 use differ::soak::{Failure, Soak};
 use formats::extensions::{absent, added, Encoding, ABSENT};
@@ -20,7 +20,7 @@ type Wrong = fn(u64, u64) -> Option<u64>;
 struct Slip(&'static str, Wrong);
 
 impl Slip {
-    fn step(&self, call: Call, hart: &mut Hart, mem: &mut [u8], map: &Map) -> Answer {
+    fn step(&self, call: Call, hart: &mut Hart, mem: &mut [u8], map: &[u64]) -> Answer {
         let before = *hart;
         let instruction = instruction(call, hart, mem, map);
         let answer = Second.call(call, hart, mem, map);
@@ -38,7 +38,12 @@ impl Slip {
 }
 
 /// The word of a step and the instruction of M or Zbb that it is.
-fn instruction(call: Call, hart: &Hart, mem: &[u8], map: &Map) -> Option<(u32, &'static Encoding)> {
+fn instruction(
+    call: Call,
+    hart: &Hart,
+    mem: &[u8],
+    map: &[u64],
+) -> Option<(u32, &'static Encoding)> {
     let word = match call {
         Call::StepWord(word) => word,
         _ => word_at(hart, mem, map)?,
@@ -47,7 +52,7 @@ fn instruction(call: Call, hart: &Hart, mem: &[u8], map: &Map) -> Option<(u32, &
 }
 
 impl Simulator for Slip {
-    fn call(&self, call: Call, hart: &mut Hart, mem: &mut [u8], map: &Map) -> Answer {
+    fn call(&self, call: Call, hart: &mut Hart, mem: &mut [u8], map: &[u64]) -> Answer {
         let Call::Run(budget) = call else {
             return self.step(call, hart, mem, map);
         };
@@ -269,7 +274,7 @@ fn minimum_and_maximum() {
 struct Legal(&'static Encoding);
 
 impl Simulator for Legal {
-    fn call(&self, call: Call, hart: &mut Hart, mem: &mut [u8], map: &Map) -> Answer {
+    fn call(&self, call: Call, hart: &mut Hart, mem: &mut [u8], map: &[u64]) -> Answer {
         let before = *hart;
         let answer = Second.call(call, hart, mem, map);
         match call {

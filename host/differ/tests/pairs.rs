@@ -4,7 +4,7 @@
 //! memories can find anything. A leak is planted where a step has trapped: there the map kept the user out.
 
 use differ::again::word_at;
-use differ::case::{Call, Map, PAGE};
+use differ::case::{Call, PAGE};
 use differ::named::{leaf, place};
 use differ::simulator::{Second, Simulator};
 use differ::soak::{Failure, Name, Soak};
@@ -37,12 +37,12 @@ const POP: u64 = 20;
 const SWAP: u64 = 21;
 
 /// Changes what a page fault leaves.
-type Leak = fn(&Stop, &mut Hart, &mut [u8], &Map, &mut Answer);
+type Leak = fn(&Stop, &mut Hart, &mut [u8], &[u64], &mut Answer);
 
 struct Leaky(Leak);
 
 impl Simulator for Leaky {
-    fn call(&self, call: Call, hart: &mut Hart, mem: &mut [u8], map: &Map) -> Answer {
+    fn call(&self, call: Call, hart: &mut Hart, mem: &mut [u8], map: &[u64]) -> Answer {
         let Call::Run(budget) = call else {
             return self.step(call, hart, mem, map);
         };
@@ -62,7 +62,7 @@ impl Simulator for Leaky {
 }
 
 impl Leaky {
-    fn step(&self, call: Call, hart: &mut Hart, mem: &mut [u8], map: &Map) -> Answer {
+    fn step(&self, call: Call, hart: &mut Hart, mem: &mut [u8], map: &[u64]) -> Answer {
         let before = *hart;
         let mut answer = Second.call(call, hart, mem, map);
         if answer.trapped && [12, 13, 15].contains(&answer.cause) {
@@ -79,7 +79,7 @@ fn stop(
     call: Call,
     hart: &Hart,
     mem: &[u8],
-    map: &Map,
+    map: &[u64],
     answer: &Answer,
 ) -> Option<Stop> {
     let tval = if hart.rest[MODE] == 1 { STVAL } else { MTVAL };
@@ -106,14 +106,17 @@ fn stop(
 }
 
 /// The map with every leaf changed.
-fn with(map: &Map, change: fn(u64) -> u64) -> Map {
-    let mut map = map.clone();
-    map.leaves.iter_mut().for_each(|leaf| *leaf = change(*leaf));
+fn with(map: &[u64], change: fn(u64) -> u64) -> Vec<u64> {
+    let mut map = map.to_vec();
+    map.iter_mut()
+        .skip(1)
+        .step_by(2)
+        .for_each(|leaf| *leaf = change(*leaf));
     map
 }
 
 /// The step's access again, with another map.
-fn again(stop: &Stop, hart: &mut Hart, mem: &mut [u8], map: &Map, answer: &mut Answer) {
+fn again(stop: &Stop, hart: &mut Hart, mem: &mut [u8], map: &[u64], answer: &mut Answer) {
     *hart = stop.before;
     *answer = Second.call(Call::StepWord(stop.word), hart, mem, map);
 }

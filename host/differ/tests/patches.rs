@@ -4,7 +4,7 @@
 //! looking at memory. Where the setting changes it forgets all and begins again. Another wrapper remembers what pages let an access do.
 
 use differ::again::word_at;
-use differ::case::{Call, Map, PAGE};
+use differ::case::{Call, PAGE};
 use differ::lifted::access;
 use differ::patches::store::{stored, Stored, PUSH};
 use differ::simulator::{Second, Simulator};
@@ -66,7 +66,7 @@ struct Memo {
 }
 
 impl Simulator for Memo {
-    fn call(&self, call: Call, hart: &mut Hart, mem: &mut [u8], map: &Map) -> Answer {
+    fn call(&self, call: Call, hart: &mut Hart, mem: &mut [u8], map: &[u64]) -> Answer {
         let mut known = [None; ENTRIES];
         let mut first = self.first;
         by_steps(call, hart, mem, map, |hart, mem| {
@@ -91,7 +91,7 @@ fn by_steps(
     call: Call,
     hart: &mut Hart,
     mem: &mut [u8],
-    map: &Map,
+    map: &[u64],
     mut step: impl FnMut(&mut Hart, &mut [u8]) -> Answer,
 ) -> Answer {
     let mut answer = Second.call(Call::Run(0), hart, mem, map);
@@ -122,7 +122,7 @@ impl Memo {
         known: &mut [Option<Entry>; ENTRIES],
         hart: &mut Hart,
         mem: &mut [u8],
-        map: &Map,
+        map: &[u64],
     ) -> Answer {
         let before = *hart;
         let pc = before.rest[PC];
@@ -272,7 +272,7 @@ fn kept_when_the_setting_changes() {
 struct Judged;
 
 impl Simulator for Judged {
-    fn call(&self, call: Call, hart: &mut Hart, mem: &mut [u8], map: &Map) -> Answer {
+    fn call(&self, call: Call, hart: &mut Hart, mem: &mut [u8], map: &[u64]) -> Answer {
         let mut known = BTreeMap::new();
         by_steps(call, hart, mem, map, |hart, mem| {
             let before = *hart;
@@ -300,7 +300,7 @@ fn judged_before(
     old: [u64; 6],
     hart: &mut Hart,
     mem: &mut [u8],
-    map: &Map,
+    map: &[u64],
 ) -> Option<Answer> {
     let new = setting(hart);
     let (mut copy, mut bytes) = (*hart, mem.to_vec());

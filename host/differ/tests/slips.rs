@@ -2,7 +2,7 @@
 //!
 //! The slips are planted where the word is handed in, so that a wrapper knows it; the masked fetch where it is fetched.
 
-use differ::case::{Call, Map, BASE};
+use differ::case::{Call, BASE};
 use differ::simulator::{Second, Simulator};
 use differ::soak::{Failure, Soak};
 use differ::state::{View, SV39};
@@ -14,12 +14,12 @@ use sporhulma::{Answer, Hart};
 const STEPS: u64 = 200_000;
 
 /// Alters what a step with a given word leaves: the hart before, the word, what was left, the map.
-type Alter = fn(&Hart, u32, &mut Hart, &mut Answer, &Map);
+type Alter = fn(&Hart, u32, &mut Hart, &mut Answer, &[u64]);
 
 struct Slip(Alter);
 
 impl Simulator for Slip {
-    fn call(&self, call: Call, hart: &mut Hart, mem: &mut [u8], map: &Map) -> Answer {
+    fn call(&self, call: Call, hart: &mut Hart, mem: &mut [u8], map: &[u64]) -> Answer {
         let before = *hart;
         let mut answer = Second.call(call, hart, mem, map);
         if let (Call::StepWord(word), 0) = (call, answer.refusal) {
@@ -33,7 +33,7 @@ impl Simulator for Slip {
 struct MaskedFetch;
 
 impl Simulator for MaskedFetch {
-    fn call(&self, call: Call, hart: &mut Hart, mem: &mut [u8], map: &Map) -> Answer {
+    fn call(&self, call: Call, hart: &mut Hart, mem: &mut [u8], map: &[u64]) -> Answer {
         let view = View::of(&hart.rest);
         let place = (hart.rest[PC] << view.fetch.bits >> view.fetch.bits).wrapping_sub(BASE);
         let word = usize::try_from(place)
@@ -100,10 +100,10 @@ fn a_page_fault_for_an_ordinary_store_to_a_shadow_page() {
         } else {
             (MCAUSE, MTVAL)
         };
-        let number = (hart.rest[tval] >> 12) as u32 & 0x7FF_FFFF;
-        let shadow = |(page, leaf)| page == number && leaf & 0xF == 0b0101;
+        let number = (hart.rest[tval] >> 12) & 0x7FF_FFFF;
+        let shadow = |entry: &[u64]| entry[0] == number && entry[1] & 0xF == 0b0101;
         let sv39 = before.rest[SATP] == SV39;
-        if word & 0x7F == STORE && answer.cause == 7 && sv39 && map.entries().any(shadow) {
+        if word & 0x7F == STORE && answer.cause == 7 && sv39 && map.chunks(2).any(shadow) {
             answer.cause = 15;
             hart.rest[cause] = 15;
         }

@@ -256,7 +256,6 @@ mod tests {
     use super::*;
     use crate::qemu::tests::distinct;
     use crate::side::word_at;
-    use sporhulma::Map;
 
     #[test]
     fn each_word_is_compared() {
@@ -297,7 +296,7 @@ mod tests {
     fn forgets_nothing(
         hart: &mut Hart,
         memory: &mut [u8],
-        map: &Map,
+        map: &[u64],
         steps: u64,
     ) -> Result<Option<u64>, String> {
         let mut known = std::collections::BTreeMap::new();

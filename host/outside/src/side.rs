@@ -3,14 +3,14 @@
 
 use crate::program::{Program, BASE};
 use sporhulma::word::{MODE, PC, SATP};
-use sporhulma::{Hart, Map};
+use sporhulma::Hart;
 
 /// A step of a hart with its memory and its map: the cause if it trapped; an error if it was
 /// refused.
-type Step = fn(&mut Hart, &mut [u8], &Map) -> Result<Option<u64>, String>;
+type Step = fn(&mut Hart, &mut [u8], &[u64]) -> Result<Option<u64>, String>;
 
 /// A run of so many steps, or fewer if one traps; so.
-pub type Run = fn(&mut Hart, &mut [u8], &Map, u64) -> Result<Option<u64>, String>;
+pub type Run = fn(&mut Hart, &mut [u8], &[u64], u64) -> Result<Option<u64>, String>;
 
 #[derive(Clone, Copy)]
 pub struct Simulator {
@@ -35,12 +35,12 @@ pub fn second() -> Simulator {
     }
 }
 
-fn step_proved(hart: &mut Hart, memory: &mut [u8], map: &Map) -> Result<Option<u64>, String> {
+fn step_proved(hart: &mut Hart, memory: &mut [u8], map: &[u64]) -> Result<Option<u64>, String> {
     let answer = sporhulma::step(hart, memory, map);
     outcome(answer.refusal, answer.trapped, answer.cause)
 }
 
-fn step_second(hart: &mut Hart, memory: &mut [u8], map: &Map) -> Result<Option<u64>, String> {
+fn step_second(hart: &mut Hart, memory: &mut [u8], map: &[u64]) -> Result<Option<u64>, String> {
     let mut stepped = ::second::Hart::from_words(&hart.x, &hart.rest);
     let answer = ::second::step(&mut stepped, memory, map);
     (hart.x, hart.rest) = stepped.to_words();
@@ -50,7 +50,7 @@ fn step_second(hart: &mut Hart, memory: &mut [u8], map: &Map) -> Result<Option<u
 fn run_proved(
     hart: &mut Hart,
     memory: &mut [u8],
-    map: &Map,
+    map: &[u64],
     steps: u64,
 ) -> Result<Option<u64>, String> {
     let answer = sporhulma::run(hart, memory, map, steps);
@@ -60,7 +60,7 @@ fn run_proved(
 fn run_second(
     hart: &mut Hart,
     memory: &mut [u8],
-    map: &Map,
+    map: &[u64],
     steps: u64,
 ) -> Result<Option<u64>, String> {
     let mut run = ::second::Hart::from_words(&hart.x, &hart.rest);
@@ -82,7 +82,7 @@ pub struct Side {
     pub simulator: Simulator,
     pub hart: Hart,
     memory: Vec<u8>,
-    map: Map,
+    map: Vec<u64>,
 }
 
 impl Side {
@@ -116,19 +116,18 @@ impl Side {
 }
 
 /// The word at a hart's pc; none if there is no memory.
-pub fn word_at(hart: &Hart, memory: &[u8], map: &Map) -> Option<u32> {
+pub fn word_at(hart: &Hart, memory: &[u8], map: &[u64]) -> Option<u32> {
     let at = usize::try_from(physical(hart, map)?.wrapping_sub(BASE)).ok()?;
     let bytes = memory.get(at..at.checked_add(4)?)?;
     Some(u32::from_le_bytes(bytes.try_into().expect("four bytes")))
 }
 
 /// The physical address of pc; none if Sv39 is on and the map has no page there.
-fn physical(hart: &Hart, map: &Map) -> Option<u64> {
+fn physical(hart: &Hart, map: &[u64]) -> Option<u64> {
     let pc = hart.rest[PC];
     if hart.rest[MODE] == 3 || hart.rest[SATP] == 0 {
         return Some(pc);
     }
-    let mut entries = map.entries();
-    let (_, leaf) = entries.find(|(page, _)| u64::from(*page) == pc >> 12)?;
+    let leaf = map.chunks_exact(2).find(|entry| entry[0] == pc >> 12)?[1];
     Some(leaf >> 10 << 12 | pc & 0xfff)
 }

@@ -13,10 +13,9 @@ use crate::pads;
 use crate::shadow;
 use crate::translate::translate;
 use crate::trap::{mret, sret, Trap, INSTRUCTION_MISALIGNED};
-use columns::Columns;
 
 /// Carries out `word` at pc. Jumps and returns set pc themselves; after all else pc moves on by 4.
-pub fn execute(h: &mut Hart, mem: &mut [u8], map: Columns, word: u32) -> Result<(), Trap> {
+pub fn execute(h: &mut Hart, mem: &mut [u8], map: &[u64], word: u32) -> Result<(), Trap> {
     match decode(word) {
         Instruction::Illegal => return Err(Trap::illegal(word)),
         Instruction::Lui(o) => h.set(o.rd, o.immediate),
@@ -74,7 +73,7 @@ fn jalr(h: &mut Hart, operands: Immediate) -> Result<(), Trap> {
 fn load(
     h: &mut Hart,
     mem: &[u8],
-    map: Columns,
+    map: &[u64],
     width: Width,
     extension: Extension,
     operands: Immediate,
@@ -89,7 +88,7 @@ fn load(
 fn store(
     h: &Hart,
     mem: &mut [u8],
-    map: Columns,
+    map: &[u64],
     width: Width,
     operands: Sources,
 ) -> Result<(), Trap> {

@@ -4,7 +4,7 @@
 //! proved simulator, so that the two can be held against each other. It works by reference: a call changes the hart and the
 //! memory that it is lent. The calls are in `run`, loading a text in Intel HEX is in `hex`, an instruction as eight numbers in `read` and `write`;
 //! `path` says how an access goes and which rule refuses it; `csrs` and `leaf` have the places of fields. The other files hold one subject each.
-//! It uses no other crate but `columns`, the form of a page map; the others of `host/` may ask it.
+//! It uses no other crate; the others of `host/` may ask it.
 
 mod access;
 mod alu;
@@ -26,8 +26,6 @@ mod shadow;
 mod translate;
 mod trap;
 mod write;
-
-pub use columns::{Columns, Map};
 
 pub use access::{access, Access, Kind, Reason};
 pub use decode::family;

@@ -3,13 +3,13 @@
 use crate::csrs::field::*;
 use crate::hart::{Hart, BELOW_EIGHT, BELOW_FOUR, MACHINE, SUPERVISOR, USER};
 use crate::leaf::{ENTRIES, NUMBERS, PAGE};
-use columns::Columns;
 
 const MOST_MEMORY: usize = 1_048_576;
+const MOST_MAP_WORDS: usize = 2 * ENTRIES;
 const MOST_BUDGET: u64 = 1_000_000;
 
 /// The lowest refusal that applies to a step, or 0.
-pub fn of_step(h: &Hart, mem: &[u8], map: Columns) -> u64 {
+pub fn of_step(h: &Hart, mem: &[u8], map: &[u64]) -> u64 {
     if !hart_is_possible(h) {
         1
     } else if !memory_fits(mem) {
@@ -22,7 +22,7 @@ pub fn of_step(h: &Hart, mem: &[u8], map: Columns) -> u64 {
 }
 
 /// The lowest refusal that applies to a run, or 0.
-pub fn of_run(h: &Hart, mem: &[u8], map: Columns, budget: u64) -> u64 {
+pub fn of_run(h: &Hart, mem: &[u8], map: &[u64], budget: u64) -> u64 {
     match of_step(h, mem, map) {
         0 if budget > MOST_BUDGET => 4,
         refusal => refusal,
@@ -66,10 +66,12 @@ pub fn memory_fits(mem: &[u8]) -> bool {
     !mem.is_empty() && mem.len() % PAGE as usize == 0 && mem.len() <= MOST_MEMORY
 }
 
-/// Whether each page has its leaf, there are not too many, and the numbers are pages' and strictly rise. A leaf may be any word.
-fn map_is_well_formed(map: Columns) -> bool {
-    map.pages.len() == map.leaves.len()
-        && map.pages.len() <= ENTRIES
-        && map.pages.iter().all(|&number| u64::from(number) < NUMBERS)
-        && map.pages.windows(2).all(|two| two[0] < two[1])
+fn map_is_well_formed(map: &[u64]) -> bool {
+    let numbers = || map.iter().step_by(2);
+    map.len() % 2 == 0
+        && map.len() <= MOST_MAP_WORDS
+        && numbers().all(|&number| number < NUMBERS)
+        && numbers()
+            .zip(numbers().skip(1))
+            .all(|(one, next)| one < next)
 }

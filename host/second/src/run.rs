@@ -8,7 +8,6 @@ use crate::pads;
 use crate::refusal;
 use crate::translate::translate;
 use crate::trap::{deliver, Trap};
-use columns::Columns;
 
 /// What a call answers. Refusal 0: taken. Without a trap the cause is 0.
 #[derive(Clone, Copy, PartialEq, Eq, Debug)]
@@ -49,8 +48,7 @@ impl Answer {
 }
 
 /// Fetches one word at pc and carries it out.
-pub fn step<'a>(h: &mut Hart, mem: &mut [u8], map: impl Into<Columns<'a>>) -> Answer {
-    let map = map.into();
+pub fn step(h: &mut Hart, mem: &mut [u8], map: &[u64]) -> Answer {
     match refusal::of_step(h, mem, map) {
         0 => run_accepted(h, mem, map, 1),
         refusal => Answer::refused(refusal),
@@ -58,13 +56,7 @@ pub fn step<'a>(h: &mut Hart, mem: &mut [u8], map: impl Into<Columns<'a>>) -> An
 }
 
 /// Carries out `word` as if it had been fetched at pc.
-pub fn step_word<'a>(
-    h: &mut Hart,
-    mem: &mut [u8],
-    map: impl Into<Columns<'a>>,
-    word: u32,
-) -> Answer {
-    let map = map.into();
+pub fn step_word(h: &mut Hart, mem: &mut [u8], map: &[u64], word: u32) -> Answer {
     let refusal = refusal::of_step(h, mem, map);
     if refusal != 0 {
         return Answer::refused(refusal);
@@ -79,8 +71,7 @@ pub fn step_word<'a>(
 }
 
 /// Steps until a step has trapped or the budget is spent.
-pub fn run<'a>(h: &mut Hart, mem: &mut [u8], map: impl Into<Columns<'a>>, budget: u64) -> Answer {
-    let map = map.into();
+pub fn run(h: &mut Hart, mem: &mut [u8], map: &[u64], budget: u64) -> Answer {
     match refusal::of_run(h, mem, map, budget) {
         0 => run_accepted(h, mem, map, budget),
         refusal => Answer::refused(refusal),
@@ -88,7 +79,7 @@ pub fn run<'a>(h: &mut Hart, mem: &mut [u8], map: impl Into<Columns<'a>>, budget
 }
 
 /// A step never leaves what would be refused, so one look before the first is enough.
-fn run_accepted(h: &mut Hart, mem: &mut [u8], map: Columns, budget: u64) -> Answer {
+fn run_accepted(h: &mut Hart, mem: &mut [u8], map: &[u64], budget: u64) -> Answer {
     for count in 1..=budget {
         let done = fetch(h, mem, map).and_then(|word| perform(h, mem, map, word));
         if let Err(trap) = done {
@@ -99,14 +90,14 @@ fn run_accepted(h: &mut Hart, mem: &mut [u8], map: Columns, budget: u64) -> Answ
     Answer::quiet(budget)
 }
 
-fn fetch(h: &Hart, mem: &[u8], map: Columns) -> Result<u32, Trap> {
+fn fetch(h: &Hart, mem: &[u8], map: &[u64]) -> Result<u32, Trap> {
     let access = Access::new(Kind::Fetch, h.pc, Width::Word);
     let at = translate(h, map, mem.len(), access)?;
     Ok(read(mem, at, Width::Word) as u32)
 }
 
 /// The pad check comes after fetch faults and before illegal instructions.
-fn perform(h: &mut Hart, mem: &mut [u8], map: Columns, word: u32) -> Result<(), Trap> {
+fn perform(h: &mut Hart, mem: &mut [u8], map: &[u64], word: u32) -> Result<(), Trap> {
     pads::check(h, word)?;
     execute(h, mem, map, word)
 }

@@ -9,7 +9,6 @@ use crate::hart::{Hart, MACHINE, SUPERVISOR, USER};
 use crate::memory::{read, read_extended, write, Extension, Width};
 use crate::translate::translate;
 use crate::trap::{Trap, SHADOW_STACK_FAULT, SOFTWARE_CHECK};
-use columns::Columns;
 
 pub const SLOT: Width = Width::Double;
 const SLOT_BYTES: u64 = 8;
@@ -34,7 +33,7 @@ pub fn below(ssp: u64) -> u64 {
 }
 
 /// Stores a link register below ssp and then lowers ssp. Off, it is a Zimop word with rd = x0.
-pub fn push(h: &mut Hart, mem: &mut [u8], map: Columns, link: u8) -> Result<(), Trap> {
+pub fn push(h: &mut Hart, mem: &mut [u8], map: &[u64], link: u8) -> Result<(), Trap> {
     if !enabled(h) {
         return Ok(());
     }
@@ -47,7 +46,7 @@ pub fn push(h: &mut Hart, mem: &mut [u8], map: Columns, link: u8) -> Result<(), 
 }
 
 /// Compares a link register with the word at ssp, and raises ssp if they are equal.
-pub fn pop_check(h: &mut Hart, mem: &[u8], map: Columns, link: u8) -> Result<(), Trap> {
+pub fn pop_check(h: &mut Hart, mem: &[u8], map: &[u64], link: u8) -> Result<(), Trap> {
     if !enabled(h) {
         return Ok(());
     }
@@ -73,7 +72,7 @@ pub fn read_ssp(h: &mut Hart, rd: u8) {
 pub fn swap(
     h: &mut Hart,
     mem: &mut [u8],
-    map: Columns,
+    map: &[u64],
     width: Width,
     operands: Registers,
     word: u32,

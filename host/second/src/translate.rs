@@ -10,7 +10,6 @@ use crate::hart::{Hart, MACHINE, SUPERVISOR, USER};
 use crate::leaf::{A, D, FRAME, FRAME_SHIFT, NUMBERS, PAGE, R, RESERVED, U, V, W, X};
 use crate::memory::MEMORY_START;
 use crate::trap::Trap;
-use columns::Columns;
 
 /// An Sv39 address has 39 bits; this many bits above them only repeat bit 38.
 const SV39_SPARE_BITS: u32 = 25;
@@ -19,12 +18,7 @@ const SV39_SPARE_BITS: u32 = 25;
 ///
 /// Always inlined: each caller's kind of access is fixed, so most questions fall away there.
 #[inline(always)]
-pub(crate) fn translate(
-    h: &Hart,
-    map: Columns,
-    size: usize,
-    access: Access,
-) -> Result<usize, Trap> {
+pub(crate) fn translate(h: &Hart, map: &[u64], size: usize, access: Access) -> Result<usize, Trap> {
     let regime = Regime::of(h, access.kind);
     let address = regime.transformed(access.address);
     physical(h, map, &regime, access, address)
@@ -50,10 +44,10 @@ pub struct Path {
 }
 
 /// The same nine steps, and what they met.
-pub fn path<'a>(h: &Hart, map: impl Into<Columns<'a>>, size: usize, access: Access) -> Path {
+pub fn path(h: &Hart, map: &[u64], size: usize, access: Access) -> Path {
     let regime = Regime::of(h, access.kind);
     let transformed = regime.transformed(access.address);
-    let physical = physical(h, map.into(), &regime, access, transformed);
+    let physical = physical(h, map, &regime, access, transformed);
     Path {
         regime,
         transformed,
@@ -137,7 +131,7 @@ fn ignore_upper(address: u64, bits: u32, is_virtual: bool) -> u64 {
 #[inline(always)]
 fn physical(
     h: &Hart,
-    map: Columns,
+    map: &[u64],
     regime: &Regime,
     access: Access,
     address: u64,
@@ -159,7 +153,7 @@ fn physical(
 }
 
 /// Steps 5 to 8, under Sv39.
-fn sv39(h: &Hart, map: Columns, mode: u64, kind: Kind, address: u64) -> Result<u64, Reason> {
+fn sv39(h: &Hart, map: &[u64], mode: u64, kind: Kind, address: u64) -> Result<u64, Reason> {
     let page = page_number(address).ok_or(Reason::NotCanonical)?;
     let entry = find(map, page).ok_or(Reason::NoEntry)?;
     accepted(entry, h.menvcfg)?;
@@ -176,15 +170,21 @@ fn page_number(address: u64) -> Option<u64> {
 }
 
 /// The entry of an address's page, if it is one of Sv39's and the map has it.
-pub fn entry<'a>(map: impl Into<Columns<'a>>, address: u64) -> Option<u64> {
-    find(map.into(), page_number(address)?)
+pub fn entry(map: &[u64], address: u64) -> Option<u64> {
+    find(map, page_number(address)?)
 }
 
 /// Step 5: the entry of this page. The page numbers of the map strictly rise.
-fn find(map: Columns, page: u64) -> Option<u64> {
-    let numbers = map.pages;
-    let at = numbers.binary_search_by_key(&page, |&number| number.into());
-    map.leaves.get(at.ok()?).copied()
+fn find(map: &[u64], page: u64) -> Option<u64> {
+    let mut rest = map;
+    while rest.len() >= 4 {
+        let (low, high) = rest.split_at(rest.len() / 4 * 2);
+        rest = if high[0] <= page { high } else { low };
+    }
+    match rest {
+        [number, entry, ..] if *number == page => Some(*entry),
+        _ => None,
+    }
 }
 
 /// Step 5: whether the entry can be used at all.

@@ -69,7 +69,7 @@ fn p10_push_wraps() {
 
     let mut w = shadowed(SUPERVISOR, 0);
     w.h.ssp = 0;
-    w.map = Map::from([((1 << 27) - 1, leaf(2, V | W | A | D))]);
+    w.map = vec![(1 << 27) - 1, leaf(2, V | W | A | D)];
     w.h.x[1] = 77;
     w.passes(PUSH_X1);
     assert_eq!(w.h.ssp, 0xFFFF_FFFF_FFFF_FFF8);
@@ -88,9 +88,9 @@ fn lh_sign_extends() {
 #[test]
 fn entries_64_and_65() {
     let mut w = world(MACHINE);
-    w.map = (0..64).map(|page| (page, 0)).collect();
+    w.map = (0..64).flat_map(|page| [page, 0]).collect();
     assert_eq!(w.step(), trapped(1, 2));
-    w.map.push(64, 0);
+    w.map.extend([64, 0]);
     assert_eq!(w.step(), refused(3));
 }
 

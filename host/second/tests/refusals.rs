@@ -149,57 +149,26 @@ fn memory_sizes() {
     }
 }
 
-/// Refusal 3 at each of its edges, and beside each what is accepted.
 #[test]
 fn map_forms() {
     let top = (1 << 27) - 1;
-    let table: [(&[u32], &[u64], u64); 16] = [
-        (&[], &[], 0),
-        (&[0], &[], 3),
-        (&[], &[0], 3),
-        (&[0], &[u64::MAX], 0),
-        (&[0, 1], &[0], 3),
-        (&[0], &[0, 1], 3),
-        (&[0, 1], &[0, 1], 0),
-        (&[top], &[0], 0),
-        (&[top + 1], &[0], 3),
-        (&[u32::MAX], &[0], 3),
-        (&[4, top], &[0, 0], 0),
-        (&[4, top + 1], &[0, 0], 3),
-        (&[4, 5], &[9, 1], 0),
-        (&[4, 5], &[7, 7], 0),
-        (&[5, 5], &[0, 1], 3),
-        (&[6, 5], &[0, 1], 3),
+    let table: [(&[u64], u64); 9] = [
+        (&[], 0),
+        (&[0], 3),
+        (&[0, u64::MAX], 0),
+        (&[0, 0, 1], 3),
+        (&[top, 0], 0),
+        (&[top + 1, 0], 3),
+        (&[4, 9, 5, 1], 0),
+        (&[5, 0, 5, 0], 3),
+        (&[6, 0, 5, 0], 3),
     ];
-    for (pages, leaves, refusal) in table {
-        refuses_map(pages, leaves, refusal);
+    for (map, refusal) in table {
+        let mut w = world(MACHINE);
+        w.map = map.to_vec();
+        assert_eq!(w.word(NOP).refusal, refusal, "{map:?}");
+        assert_eq!(w.run(0).refusal, refusal, "{map:?}");
     }
-}
-
-/// Up to 64 entries, and each column as long as the other.
-#[test]
-fn map_lengths() {
-    let pages: Vec<u32> = (0..66).collect();
-    let lengths = [0, 1, 2, 63, 64, 65, 66];
-    for both in lengths.map(|one| lengths.map(|other| (one, other))) {
-        for (one, other) in both {
-            let accepted = one == other && one <= 64;
-            refuses_map(
-                &pages[..one],
-                &[0; 66][..other],
-                if accepted { 0 } else { 3 },
-            );
-        }
-    }
-}
-
-#[track_caller]
-fn refuses_map(pages: &[u32], leaves: &[u64], refusal: u64) {
-    let mut w = world(MACHINE);
-    w.map.pages = pages.to_vec();
-    w.map.leaves = leaves.to_vec();
-    assert_eq!(w.word(NOP).refusal, refusal, "{pages:?} {leaves:?}");
-    assert_eq!(w.run(0).refusal, refusal, "{pages:?} {leaves:?}");
 }
 
 #[test]
@@ -219,12 +188,12 @@ fn the_lowest_number_is_given() {
     let mut w = world(MACHINE);
     w.h.ssp = 1;
     w.mem = Vec::new();
-    w.map.pages = vec![0];
+    w.map = vec![0];
     assert_eq!(w.run(1_000_001), refused(1));
     w.h.ssp = 0;
     assert_eq!(w.run(1_000_001), refused(2));
     w.mem = vec![0; 4_096];
     assert_eq!(w.run(1_000_001), refused(3));
-    w.map = Map::new();
+    w.map = Vec::new();
     assert_eq!(w.run(1_000_001), refused(4));
 }

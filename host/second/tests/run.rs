@@ -96,11 +96,13 @@ fn a_protected_return() {
         jalr(0, 1, 0),
     ];
     let mut w = shadowed(USER, V | W | U | A | D);
-    w.map = Map::from([
-        (5, leaf(1, V | W | U | A | D)),
-        (6, leaf(2, V | R | W | U | A | D)),
-        (8, leaf(0, V | X | U | A)),
-    ]);
+    w.map = vec![
+        5,
+        leaf(1, V | W | U | A | D),
+        6,
+        leaf(2, V | R | W | U | A | D),
+    ];
+    w.map.extend([8, leaf(0, V | X | U | A)]);
     w.place(0, &program);
     (w.h.pc, w.h.x[2]) = (0x8000, 0x6100);
     let mut good = w.clone();

@@ -40,7 +40,7 @@ fn pop_check_compares() {
 fn pop_wraps() {
     let mut w = shadowed(SUPERVISOR, 0);
     w.h.ssp = u64::MAX - 7;
-    w.map = Map::from([((1 << 27) - 1, leaf(2, V | W | A | D))]);
+    w.map = vec![(1 << 27) - 1, leaf(2, V | W | A | D)];
     w.passes(POP_X1);
     assert_eq!(w.h.ssp, 0);
 }

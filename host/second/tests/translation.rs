@@ -138,7 +138,7 @@ fn step_2_under_mprv_with_mxr_the_upper_bits_have_to_be_canonical() {
         (PMM_16, 0x0000_FFFF_FFFF_FFF8),
     ] {
         let mut w = monitor(0, 0);
-        w.map = Map::from([(0x7FF_FFFF, leaf(1, ALL))]);
+        w.map = vec![0x7FF_FFFF, leaf(1, ALL)];
         w.place_double(0x1FF8, 43);
         w.h.senvcfg = pmm;
         load_gives(&w, address, 43);
@@ -176,7 +176,7 @@ fn step_2_masks_no_swap_under_mprv_with_mxr() {
         let mut w = monitor(mpp, MXR);
         w.h.satp = satp;
         w.h.menvcfg |= SSE;
-        w.map = Map::from([(5, leaf(1, V | W | U | A | D))]);
+        w.map = vec![5, leaf(1, V | W | U | A | D)];
         w.h.x[1] = TAGGED;
         w.clone().traps(swap(3, 2, 1, 3), cause, TAGGED);
         w.h.x[1] = TAGGED + 2;
@@ -184,7 +184,7 @@ fn step_2_masks_no_swap_under_mprv_with_mxr() {
     }
     let mut w = monitor(0, 0);
     w.h.menvcfg |= SSE;
-    w.map = Map::from([(5, leaf(1, V | W | U | A | D))]);
+    w.map = vec![5, leaf(1, V | W | U | A | D)];
     w.h.x[1] = TAGGED;
     w.clone().passes(swap(3, 2, 1, 3));
     w.h.mstatus |= MXR;
@@ -229,7 +229,7 @@ fn step_2_under_mprv_with_mxr_leaves_the_rest_as_it_was() {
 #[test]
 fn step_2_virtual_copies_the_highest_bit_left() {
     let mut w = paged(USER, ALL);
-    w.map = Map::from([(5, leaf(1, ALL)), (0x7FF_FFFF, leaf(2, ALL))]);
+    w.map = vec![5, leaf(1, ALL), 0x7FF_FFFF, leaf(2, ALL)];
     w.place_double(0x1000, 42);
     w.place_double(0x2FF8, 43);
     w.h.senvcfg = PMM_16;
@@ -292,7 +292,7 @@ fn step_4_shadow_access_in_m_or_bare() {
 #[test]
 fn step_5_upper_bits() {
     let mut w = paged(USER, ALL);
-    w.map = Map::from([(5, leaf(1, ALL)), (0x400_0000, leaf(2, ALL))]);
+    w.map = vec![5, leaf(1, ALL), 0x400_0000, leaf(2, ALL)];
     w.place_double(0x2000, 44);
     load_gives(&w, 0xFFFF_FFC0_0000_0000, 44);
     load_faults(&w, 0x0000_0040_0000_0000, 13, 0x0000_0040_0000_0000);
@@ -347,7 +347,7 @@ fn step_5_shadow_page_needs_menvcfg_sse_only() {
 fn step_5_every_entry_is_found() {
     let mut w = paged(USER, 0);
     w.mem = vec![0; 64 * 4_096];
-    w.map = (0..64).map(|i| (7 * i + 3, leaf(i.into(), ALL))).collect();
+    w.map = (0..64).flat_map(|i| [7 * i + 3, leaf(i, ALL)]).collect();
     for i in 0..64 {
         w.place_double(4_096 * i as usize, 100 + i);
     }
@@ -386,7 +386,7 @@ fn step_6_user_bit() {
 fn step_6_comes_before_step_7() {
     let mut w = shadowed(USER, V | R | W | A | D);
     w.clone().traps(PUSH_X1, 15, 0x57F8);
-    w.map = Map::from([(5, leaf(1, V | W | A | D))]);
+    w.map = vec![5, leaf(1, V | W | A | D)];
     store_faults(&w, 0x5000, 15, 0x5000);
     fetch_faults(&w, 0x5000, 12);
     let mut w = shadowed(SUPERVISOR, V | W | U | A | D);
@@ -482,12 +482,12 @@ fn step_9_outside_memory() {
         (1 << 44) - 1,
     ] {
         let mut w = paged(USER, 0);
-        w.map = Map::from([(5, frame << 10 | ALL)]);
+        w.map = vec![5, frame << 10 | ALL];
         load_faults(&w, 0x5000, 5, 0x5000);
         store_faults(&w, 0x5000, 7, 0x5000);
         fetch_faults(&w, 0x5000, 1);
         let mut w = shadowed(USER, 0);
-        w.map = Map::from([(5, frame << 10 | flags)]);
+        w.map = vec![5, frame << 10 | flags];
         w.clone().traps(PUSH_X1, 7, 0x57F8);
         w.traps(POP_X1, 7, 0x5800);
     }

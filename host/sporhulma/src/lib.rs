@@ -100,8 +100,6 @@ pub const FAMILIES: [&str; 24] = [
     "MOP.RR",
 ];
 
-pub use columns::{Columns, Map};
-
 /// The physical address of memory's first byte.
 pub const BASE: u64 = 0x8000_0000;
 
@@ -143,9 +141,9 @@ pub struct Answer {
 // Arrays go by pointer, slices as a pointer and a length.
 #[rustfmt::skip]
 extern "C" {
-    fn sporhulma_step(x: *mut u64, rest: *mut u64, mem: *mut u8, mem_len: usize, pages: *const u32, pages_len: usize, leaves: *const u64, leaves_len: usize, answer: *mut u64) -> u64;
-    fn sporhulma_step_word(x: *mut u64, rest: *mut u64, mem: *mut u8, mem_len: usize, pages: *const u32, pages_len: usize, leaves: *const u64, leaves_len: usize, word: u32, answer: *mut u64) -> u64;
-    fn sporhulma_run(x: *mut u64, rest: *mut u64, mem: *mut u8, mem_len: usize, pages: *const u32, pages_len: usize, leaves: *const u64, leaves_len: usize, budget: u64, answer: *mut u64) -> u64;
+    fn sporhulma_step(x: *mut u64, rest: *mut u64, mem: *mut u8, mem_len: usize, map: *const u64, map_len: usize, answer: *mut u64) -> u64;
+    fn sporhulma_step_word(x: *mut u64, rest: *mut u64, mem: *mut u8, mem_len: usize, map: *const u64, map_len: usize, word: u32, answer: *mut u64) -> u64;
+    fn sporhulma_run(x: *mut u64, rest: *mut u64, mem: *mut u8, mem_len: usize, map: *const u64, map_len: usize, budget: u64, answer: *mut u64) -> u64;
     fn sporhulma_load_hex(mem: *mut u8, mem_len: usize, text: *const u8, text_len: usize, answer: *mut u64) -> u64;
     fn sporhulma_family(word: u32) -> u64;
     fn sporhulma_read(word: u32, instruction: *mut u64) -> u64;
@@ -163,11 +161,23 @@ pub enum Call {
     Run(u64),
 }
 
-/// Makes one of the three calls. The map is a [`Map`] or two slices, [`Columns`].
+/// Makes one of the three calls.
 #[inline]
-pub fn call<'a>(call: Call, h: &mut Hart, mem: &mut [u8], map: impl Into<Columns<'a>>) -> Answer {
+pub fn call(call: Call, h: &mut Hart, mem: &mut [u8], map: &[u64]) -> Answer {
     let mut answer = [0; 3];
-    let refusal = made(call, h, mem, map.into(), &mut answer);
+    let (x, rest, told) = (h.x.as_mut_ptr(), h.rest.as_mut_ptr(), answer.as_mut_ptr());
+    let (mem, mem_len) = (mem.as_mut_ptr(), mem.len());
+    let (map, map_len) = (map.as_ptr(), map.len());
+    // SAFETY: each pointer is a reference's or a slice's own, with its length; they do not overlap, since each is borrowed apart.
+    let refusal = unsafe {
+        match call {
+            Call::Step => sporhulma_step(x, rest, mem, mem_len, map, map_len, told),
+            Call::StepWord(word) => {
+                sporhulma_step_word(x, rest, mem, mem_len, map, map_len, word, told)
+            }
+            Call::Run(budget) => sporhulma_run(x, rest, mem, mem_len, map, map_len, budget, told),
+        }
+    };
     Answer {
         refusal,
         count: answer[0],
@@ -176,40 +186,18 @@ pub fn call<'a>(call: Call, h: &mut Hart, mem: &mut [u8], map: impl Into<Columns
     }
 }
 
-#[rustfmt::skip]
-#[inline]
-fn made(call: Call, h: &mut Hart, mem: &mut [u8], map: Columns, answer: &mut [u64; 3]) -> u64 {
-    let (x, rest, told) = (h.x.as_mut_ptr(), h.rest.as_mut_ptr(), answer.as_mut_ptr());
-    let (mem, mem_len) = (mem.as_mut_ptr(), mem.len());
-    let (pages, pages_len) = (map.pages.as_ptr(), map.pages.len());
-    let (leaves, leaves_len) = (map.leaves.as_ptr(), map.leaves.len());
-    // SAFETY: each pointer is a reference's or a slice's own, with its length; they do not overlap, since each is borrowed apart.
-    unsafe {
-        match call {
-            Call::Step => sporhulma_step(x, rest, mem, mem_len, pages, pages_len, leaves, leaves_len, told),
-            Call::StepWord(word) => sporhulma_step_word(x, rest, mem, mem_len, pages, pages_len, leaves, leaves_len, word, told),
-            Call::Run(budget) => sporhulma_run(x, rest, mem, mem_len, pages, pages_len, leaves, leaves_len, budget, told),
-        }
-    }
-}
-
 /// [`Call::Step`].
-pub fn step<'a>(h: &mut Hart, mem: &mut [u8], map: impl Into<Columns<'a>>) -> Answer {
+pub fn step(h: &mut Hart, mem: &mut [u8], map: &[u64]) -> Answer {
     call(Call::Step, h, mem, map)
 }
 
 /// [`Call::StepWord`].
-pub fn step_word<'a>(
-    h: &mut Hart,
-    mem: &mut [u8],
-    map: impl Into<Columns<'a>>,
-    word: u32,
-) -> Answer {
+pub fn step_word(h: &mut Hart, mem: &mut [u8], map: &[u64], word: u32) -> Answer {
     call(Call::StepWord(word), h, mem, map)
 }
 
 /// [`Call::Run`].
-pub fn run<'a>(h: &mut Hart, mem: &mut [u8], map: impl Into<Columns<'a>>, budget: u64) -> Answer {
+pub fn run(h: &mut Hart, mem: &mut [u8], map: &[u64], budget: u64) -> Answer {
     call(Call::Run(budget), h, mem, map)
 }
 
@@ -226,7 +214,7 @@ pub struct Loaded {
 /// Loads a text of Intel HEX into memory, whose first byte is [`BASE`].
 pub fn load_hex(memory: &mut [u8], text: &[u8]) -> Loaded {
     let mut answer = [0; 3];
-    // SAFETY: as in `made`.
+    // SAFETY: as in `call`.
     let refusal = unsafe {
         sporhulma_load_hex(
             memory.as_mut_ptr(),
@@ -251,12 +239,12 @@ pub fn family(word: u32) -> u64 {
 
 /// Reads a word: 0 and its instruction's numbers, or refusal 5 and eight zeros.
 pub fn read(word: u32, instruction: &mut [u64; 8]) -> u64 {
-    // SAFETY: as in `made`.
+    // SAFETY: as in `call`.
     unsafe { sporhulma_read(word, instruction.as_mut_ptr()) }
 }
 
 /// Writes an instruction: 0 and its word; or refusal 5 where no word reads as these numbers, and the word as it was.
 pub fn write(instruction: &[u64; 8], word: &mut u32) -> u64 {
-    // SAFETY: as in `made`.
+    // SAFETY: as in `call`.
     unsafe { sporhulma_write(instruction.as_ptr(), word) }
 }

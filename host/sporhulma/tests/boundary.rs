@@ -1,15 +1,9 @@
 //! The boundary as callers see it: from Rust through the wrapper, and from C through the header.
 
 use programs::{c_compiler, started};
-use sporhulma::{
-    family, load_hex, run, step, step_word, word, Answer, Columns, Hart, Loaded, Map, BASE,
-};
+use sporhulma::{family, load_hex, run, step, step_word, word, Answer, Hart, Loaded, BASE};
 use std::path::{Path, PathBuf};
 
-const NO_MAP: Columns = Columns {
-    pages: &[],
-    leaves: &[],
-};
 /// addi a0, zero, 42
 const ADDI: u32 = 0x02A0_0513;
 const TAKEN: Answer = Answer {
@@ -28,11 +22,8 @@ fn memory(words: &[u32]) -> Vec<u8> {
 #[test]
 fn a_step_fetches_and_a_given_word_does_not() {
     let (mut fetched, mut given) = (Hart::fresh(), Hart::fresh());
-    assert_eq!(step(&mut fetched, &mut memory(&[ADDI]), NO_MAP), TAKEN);
-    assert_eq!(
-        step_word(&mut given, &mut memory(&[0]), NO_MAP, ADDI),
-        TAKEN
-    );
+    assert_eq!(step(&mut fetched, &mut memory(&[ADDI]), &[]), TAKEN);
+    assert_eq!(step_word(&mut given, &mut memory(&[0]), &[], ADDI), TAKEN);
     assert_eq!(fetched, given);
     assert_eq!((fetched.x[10], fetched.rest[word::PC]), (42, BASE + 4));
 }
@@ -40,7 +31,7 @@ fn a_step_fetches_and_a_given_word_does_not() {
 #[test]
 fn a_run_counts_the_trapping_step() {
     let mut hart = Hart::fresh();
-    let answer = run(&mut hart, &mut memory(&[ADDI, ADDI]), NO_MAP, 1_000_000);
+    let answer = run(&mut hart, &mut memory(&[ADDI, ADDI]), &[], 1_000_000);
     let trapped = Answer {
         refusal: 0,
         count: 3,
@@ -57,20 +48,21 @@ fn a_refusal_changes_nothing() {
     let mut elp = Hart::fresh();
     elp.rest[word::ELP] = 2;
     let fresh = Hart::fresh();
-    let zero = Hart {
-        x: [1; 32],
-        ..fresh
-    };
-    let uneven = Columns {
-        pages: &[0],
-        ..NO_MAP
-    };
-    let refused = [
-        (elp, 4096, NO_MAP, 1, 1),
-        (zero, 4096, NO_MAP, 1, 1),
-        (fresh, 4095, NO_MAP, 1, 2),
-        (fresh, 4096, uneven, 1, 3),
-        (fresh, 4096, NO_MAP, 1_000_001, 4),
+    let refused: [(Hart, usize, &[u64], u64, u64); 5] = [
+        (elp, 4096, &[], 1, 1),
+        (
+            Hart {
+                x: [1; 32],
+                ..fresh
+            },
+            4096,
+            &[],
+            1,
+            1,
+        ),
+        (fresh, 4095, &[], 1, 2),
+        (fresh, 4096, &[0], 1, 3),
+        (fresh, 4096, &[], 1_000_001, 4),
     ];
     for (given, length, map, budget, number) in refused {
         let (mut hart, mut bytes) = (given, vec![7; length]);
@@ -83,64 +75,6 @@ fn a_refusal_changes_nothing() {
         };
         assert_eq!((answer, hart), (expected, given));
         assert_eq!(bytes, vec![7; length]);
-    }
-}
-
-/// Refusal 3 at each of its edges, beside what is accepted, by each call.
-#[test]
-fn columns_are_refused_by_every_call() {
-    let first = |count: u32| (0..count).map(|page| (page, u64::MAX)).collect();
-    let uneven = |pages: usize, leaves: usize| Map {
-        pages: vec![0; pages],
-        leaves: vec![0; leaves],
-    };
-    let top = (1 << 27) - 1;
-    let table: [(Map, u64); 13] = [
-        (Map::new(), 0),
-        (uneven(1, 0), 3),
-        (uneven(0, 1), 3),
-        (uneven(1, 2), 3),
-        (first(64), 0),
-        (first(65), 3),
-        (Map::from([(top, 0)]), 0),
-        (Map::from([(top + 1, 0)]), 3),
-        (Map::from([(u32::MAX, 0)]), 3),
-        (Map::from([(5, 1), (6, 0)]), 0),
-        (Map::from([(5, 0), (5, 1)]), 3),
-        (Map::from([(6, 0), (5, 1)]), 3),
-        (Map::from([(0, 0), (top, u64::MAX)]), 0),
-    ];
-    for (map, number) in &table {
-        let (mut hart, mut mem) = (Hart::fresh(), memory(&[ADDI; 4]));
-        let refusals = [
-            step(&mut hart, &mut mem, map).refusal,
-            step_word(&mut hart, &mut mem, map, ADDI).refusal,
-            run(&mut hart, &mut mem, map, 2).refusal,
-        ];
-        assert_eq!(refusals, [*number; 3], "{map:?}");
-    }
-}
-
-/// Each entry leads to its own frame: a load by the page of entry n finds what stands in frame n.
-#[test]
-fn a_page_has_the_leaf_beside_it() {
-    let mut bytes = vec![0; 4 * 4096];
-    (0..4).for_each(|frame| bytes[4096 * frame] = 10 + frame as u8);
-    let leaf = |frame: u64| (BASE / 4096 + frame) << 10 | 0xDF;
-    let map = Map::from([
-        (3, leaf(2)),
-        (5, leaf(0)),
-        (6, leaf(3)),
-        (0x7FF_FFFF, leaf(1)),
-    ]);
-    for (address, found) in [(0x3000, 12), (0x5000, 10), (0x6000, 13), (!0xFFF, 11)] {
-        let mut hart = Hart::fresh();
-        hart.rest[word::MODE] = 0;
-        hart.rest[word::SATP] = 8 << 60;
-        hart.x[11] = address;
-        // lbu a0, 0(a1)
-        assert_eq!(step_word(&mut hart, &mut bytes, &map, 0x0005_C503), TAKEN);
-        assert_eq!(hart.x[10], found);
     }
 }
 

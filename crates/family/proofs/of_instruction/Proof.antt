@@ -85,7 +85,7 @@ returns-6 : tie.Need-returns-6
 returns-6 c = rw c.enum-told6.given.1
 
 returns-7 : tie.Need-returns-7
-returns-7 c = rw c.before.before.i.given.1 (c.of-access.ensures _ _ _ _)
+returns-7 c = rw (c.of-access.ensures, c.before.before.i.given.1)
 
 returns-8 : tie.Need-returns-8
 returns-8 c = rw c.enum-told7.given.1

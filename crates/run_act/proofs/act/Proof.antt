@@ -4,14 +4,12 @@ use mathlib.Core.List.{List}
 use mathlib.Core.Path.{◌≡◌, refl, ap, ◌∙◌}
 use Prim.Native.Nat.{ℕ}
 use lib.ListN.{length}
-use Rattle.address_page.specs.Lent.{map_of}
 use Rattle.isa.specs.declared.Condition.TheVariants as condition
 use Rattle.isa.specs.declared.Operation.{Operation}
 use Rattle.isa.specs.declared.Operation.TheVariants as operation
 use Rattle.isa.specs.declared.WordOperation.{WordOperation}
 use Rattle.isa.specs.declared.WordOperation.TheVariants as word
-use Rattle.step_effect.specs.Compute.{operation_of, word_operation_of}
-use Rattle.word.specs.Choice.{flag_of}
+use Rattle.step_effect.specs.Compute.{one_of, operation_of, word_operation_of}
 use Rattle.step_effect.specs.Jump.{even_of}
 use Rattle.step_effect.specs.Register.{put_of}
 use Rattle.step_meaning.specs.Instruction.{next_of}
@@ -27,7 +25,7 @@ use Rattle.run_act.proofs.act.Tie as tie
 
 module _ (g : tie.After-sum) where
   abbrev s : tie.Start
-  s = g.before.before.before.before
+  s = g.before.before.before
 
   -- what the form is carried out on
   abbrev case : Case
@@ -43,13 +41,13 @@ module _ (g : tie.After-sum) where
         control = s.args.c;
         x = s.args.x.now;
         w = s.args.w.now;
-        m = s.args.m.now;
-        map = map_of s.args.pages.now s.args.leaves.now;
+        m = s.args.mem.now;
+        map = s.args.map.now;
       }
 
   -- what is remembered of the pages, where they are not touched
   abbrev Pages : Type 0
-  Pages = Remembers s.args.p.now s.args.c case.map (length case.m)
+  Pages = Remembers s.args.pages.now s.args.c case.map (length case.m)
 
   row : (k : Operation) (u : ℕ) (t : Acted) (x' : List ℕ)
       → (t ≡ record { done = true; pc = next_of case.pc; stored = 0 }) × (x' ≡ put_of case.rd u case.x)
@@ -82,13 +80,13 @@ returns-4 : tie.Need-returns-4
 returns-4 c =
     row c.before.before.before.before.before.before operation.Slt _ _ _ c.computed4.ensures
     (ap shape_of c.before.before.before.before.enum-told4.given.1)
-    (c.before.one.ensures ∙ ap flag_of c.before.before.signed-less.ensures)
+    (c.before.one.ensures ∙ ap one_of c.before.before.signed-less.ensures)
 
 returns-5 : tie.Need-returns-5
 returns-5 c =
     row c.before.before.before.before.before.before operation.Sltu _ _ _ c.computed5.ensures
     (ap shape_of c.before.before.before.before.enum-told5.given.1)
-    (c.before.one2.ensures ∙ ap flag_of c.before.before.unsigned-less.ensures)
+    (c.before.one2.ensures ∙ ap one_of c.before.before.unsigned-less.ensures)
 
 returns-6 : tie.Need-returns-6
 returns-6 c =
@@ -258,50 +256,50 @@ returns-38 c =
 returns-39 : tie.Need-returns-39
 returns-39 c =
     jal_arm (case c.before.before.before.before.before) _ c.jumped.result _
-    c.before.before.before.before.before.before.before.before.before.requires.3 _ c.jumped.ensures
+    c.before.before.before.before.before.before.before.before.requires.3 _ c.jumped.ensures
     (ap shape_of c.before.before.before.enum-told39.given.1) c.before.sum3.ensures
 
 returns-40 : tie.Need-returns-40
 returns-40 c =
     jalr_arm (case c.before.before.before.before.before.before.before) _ c.jumped2.result _
-    c.before.before.before.before.before.before.before.before.before.before.before.requires.3 _ _ c.jumped2.ensures
+    c.before.before.before.before.before.before.before.before.before.before.requires.3 _ _ c.jumped2.ensures
     (ap shape_of c.before.before.before.before.before.enum-told40.given.1) c.before.before.before.sum4.ensures
     (c.before.even.ensures ∙ ap even_of c.before.before.sum5.ensures)
 
 returns-41 : tie.Need-returns-41
 returns-41 c =
-    branch_arm (case c.before.before.before) _ c.branch.result c.before.before.before.before.before.before.before.requires.3
-    c.before.before.before.before.before.before.before.requires.2 _ c.branch.ensures condition.Equal
+    branch_arm (case c.before.before.before) _ c.branch.result c.before.before.before.before.before.before.requires.3
+    c.before.before.before.before.before.before.requires.2 _ c.branch.ensures condition.Equal
     (ap shape_of c.before.enum-told41.given.1) refl
 
 returns-42 : tie.Need-returns-42
 returns-42 c =
-    branch_arm (case c.before.before.before) _ c.branch2.result c.before.before.before.before.before.before.before.requires.3
-    c.before.before.before.before.before.before.before.requires.2 _ c.branch2.ensures condition.NotEqual
+    branch_arm (case c.before.before.before) _ c.branch2.result c.before.before.before.before.before.before.requires.3
+    c.before.before.before.before.before.before.requires.2 _ c.branch2.ensures condition.NotEqual
     (ap shape_of c.before.enum-told42.given.1) refl
 
 returns-43 : tie.Need-returns-43
 returns-43 c =
-    branch_arm (case c.before.before.before.before) _ c.branch3.result c.before.before.before.before.before.before.before.before.requires.3
-    c.before.before.before.before.before.before.before.before.requires.2 _ c.branch3.ensures condition.Less
+    branch_arm (case c.before.before.before.before) _ c.branch3.result c.before.before.before.before.before.before.before.requires.3
+    c.before.before.before.before.before.before.before.requires.2 _ c.branch3.ensures condition.Less
     (ap shape_of c.before.before.enum-told43.given.1) c.before.signed-less2.ensures
 
 returns-44 : tie.Need-returns-44
 returns-44 c =
-    branch_arm (case c.before.before.before.before) _ c.branch4.result c.before.before.before.before.before.before.before.before.requires.3
-    c.before.before.before.before.before.before.before.before.requires.2 _ c.branch4.ensures condition.NotLess
+    branch_arm (case c.before.before.before.before) _ c.branch4.result c.before.before.before.before.before.before.before.requires.3
+    c.before.before.before.before.before.before.before.requires.2 _ c.branch4.ensures condition.NotLess
     (ap shape_of c.before.before.enum-told44.given.1) (ap not c.before.signed-less3.ensures)
 
 returns-45 : tie.Need-returns-45
 returns-45 c =
-    branch_arm (case c.before.before.before.before) _ c.branch5.result c.before.before.before.before.before.before.before.before.requires.3
-    c.before.before.before.before.before.before.before.before.requires.2 _ c.branch5.ensures condition.LessUnsigned
+    branch_arm (case c.before.before.before.before) _ c.branch5.result c.before.before.before.before.before.before.before.requires.3
+    c.before.before.before.before.before.before.before.requires.2 _ c.branch5.ensures condition.LessUnsigned
     (ap shape_of c.before.before.enum-told45.given.1) c.before.unsigned-less2.ensures
 
 returns-46 : tie.Need-returns-46
 returns-46 c =
-    branch_arm (case c.before.before.before.before) _ c.branch6.result c.before.before.before.before.before.before.before.before.requires.3
-    c.before.before.before.before.before.before.before.before.requires.2 _ c.branch6.ensures condition.NotLessUnsigned
+    branch_arm (case c.before.before.before.before) _ c.branch6.result c.before.before.before.before.before.before.before.requires.3
+    c.before.before.before.before.before.before.before.requires.2 _ c.branch6.ensures condition.NotLessUnsigned
     (ap shape_of c.before.before.enum-told46.given.1) (ap not c.before.unsigned-less3.ensures)
 
 returns-47 : tie.Need-returns-47
@@ -372,11 +370,11 @@ returns-59 c =
 returns-60 : tie.Need-returns-60
 returns-60 c =
     ssp_arm (case c.before.before.before.before.before) _ _ _ _ c.computed39.ensures
-    c.before.before.before.before.before.before.before.before.before.requires.3 (ap shape_of c.before.before.before.enum-told60.given.1) refl
+    c.before.before.before.before.before.before.before.before.requires.3 (ap shape_of c.before.before.before.enum-told60.given.1) refl
 
 returns-61 : tie.Need-returns-61
 returns-61 c =
-    left_arm (case c.before.before.before) _ _ c.undone.ensures c.before.before.before.before.before.before.before.requires.3
+    left_arm (case c.before.before.before) _ _ c.undone.ensures c.before.before.before.before.before.before.requires.3
 
 pub act-spec : {M : Type 1} → statement M
 act-spec =

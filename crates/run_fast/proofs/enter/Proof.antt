@@ -15,7 +15,7 @@ returns c =
     let b = c.before.before.before.before in
     let r = b.before.read in
     let z = b.before.before in
-    let a = z.before.before.before.before.before.before.args in
+    let a = z.before.before.before.before.before.args in
     let there = r.result.there in
     let at = r.result.at in
     let f = r.result.form in (
@@ -39,7 +39,7 @@ returns-2 : tie.Need-returns-2
 returns-2 c =
     let r = c.before.read in
     let z = c.before.before in
-    let a = z.before.before.before.before.before.before.args in
+    let a = z.before.before.before.before.before.args in
     let there = r.result.there in
     let at = r.result.at in
     let f = r.result.form in (

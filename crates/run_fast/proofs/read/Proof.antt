@@ -2,7 +2,6 @@
 use mathlib.Core.Bool.{true≢false}
 use mathlib.Core.Path.{sym, ◌∙◌}
 use lib.ListN.{length}
-use Rattle.address_page.specs.Lent.{map_of}
 use Rattle.isa.specs.declared.Kind.TheVariants.{Fetch}
 use Rattle.isa.specs.declared.Width.TheVariants.{Word}
 use Rattle.address_place.proofs.Reach.{place_within, place_index}
@@ -14,26 +13,26 @@ use Rattle.run_fast.proofs.read.Tie as tie
 index-requires : tie.Need-index-requires
 index-requires c κs =
     let t = c.before.before.before in
-    let a = t.before.before.before.before.before.args in
+    let a = t.before.before.before.before.args in
     let q = c.before.q.given in
-    (place_within a.s.control Fetch Word a.pc (map_of a.pages.now a.leaves.now) (length a.mem.now) q.0.0 (sym t.fetch.ensures ∙ q.1)).0
+    (place_within a.s.control Fetch Word a.pc a.map.now (length a.mem.now) q.0.0 (sym t.fetch.ensures ∙ q.1)).0
 
 word-requires : tie.Need-word-requires
 word-requires c κs =
     let t = c.before.before.before.before in
-    let a = t.before.before.before.before.before.args in
+    let a = t.before.before.before.before.args in
     let q = c.before.before.q.given in
     rw c.index.ensures
-    (place_index a.s.control Fetch Word a.pc (map_of a.pages.now a.leaves.now) (length a.mem.now) q.0.0 (sym t.fetch.ensures ∙ q.1))
+    (place_index a.s.control Fetch Word a.pc a.map.now (length a.mem.now) q.0.0 (sym t.fetch.ensures ∙ q.1))
 
 returns : tie.Need-returns
 returns c =
     let i = c.before.before in
     let q = i.before.before.q.given in
     let t = i.before.before.before.before in
-    let s = t.before.before.before.before.before in
+    let s = t.before.before.before.before in
     let a = s.args in
-    λ e. found c.of_word.result i.index.result c.before.word.result a.pc a.s a.mem.now (map_of a.pages.now a.leaves.now) q.0.0
+    λ e. found c.of_word.result i.index.result c.before.word.result a.pc a.s a.mem.now a.map.now q.0.0
     (sym t.fetch.ensures ∙ q.1) i.index.ensures s.requires c.before.word.ensures c.of_word.ensures.0 c.of_word.ensures.1
 
 returns-2 : tie.Need-returns-2

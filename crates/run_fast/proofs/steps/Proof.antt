@@ -7,8 +7,6 @@ use Prim.Native.Nat.{ℕ, ◌%◌, ◌^◌, ◌≤◌}
 use native.Mathlib.Omega.{arith}
 use lib.ListN.{length, length-replicate, get_or}
 use borrow.Author.Rules.{rules}
-use Rattle.address_page.specs.Lent.{map_of}
-use Rattle.address_page.specs.Map.{Map}
 use Rattle.step_meaning.specs.Instruction.{next_of}
 use Rattle.step_meaning.specs.declared.Source.TheVariants.{Fetch}
 use Rattle.csr_setting.specs.declared.Setting.{Setting}
@@ -30,17 +28,17 @@ use Rattle.run_fast.proofs.steps.Statement.{statement}
 use Rattle.run_fast.proofs.steps.Tie as tie
 
 abbrev invariant-loop : tie.invariant-loop
-invariant-loop x₀ w₀ first s mem₀ pages leaves budget nums₀ bytes₀ ops₀ ps₀ pc₀ left₀ x w mem nums bytes ops ps pc left =
+invariant-loop x₀ w₀ first s mem₀ map budget nums₀ bytes₀ ops₀ pages₀ pc₀ left₀ x w mem nums bytes ops pages pc left =
     (length mem ≡ length mem₀) × Straight w × (setting_of w ≡ s) × (get_or x 0 0 ≡ 0) × (pc % 4 ≡ 0) × (length nums ≡ 12288) × (length ops ≡ 4096)
-    × Remembers ps s.control (map_of pages leaves) (length mem) × Holds nums bytes ops s mem (map_of pages leaves)
-    × Midway (run_from Fetch budget (hart_at pc₀ x₀ w₀) mem₀ (map_of pages leaves)) budget left Fetch (hart_at pc x w) mem (map_of pages leaves)
+    × Remembers pages s.control map (length mem) × Holds nums bytes ops s mem map
+    × Midway (run_from Fetch budget (hart_at pc₀ x₀ w₀) mem₀ map) budget left Fetch (hart_at pc x w) mem map
 
 abbrev decreases-loop : tie.decreases-loop
-decreases-loop x₀ w₀ first s mem₀ pages leaves budget nums₀ bytes₀ ops₀ ps₀ pc₀ left₀ x w mem nums bytes ops ps pc left = left
+decreases-loop x₀ w₀ first s mem₀ map budget nums₀ bytes₀ ops₀ pages₀ pc₀ left₀ x w mem nums bytes ops pages pc left = left
 
 loop-holds : tie.Need-loop-init invariant-loop decreases-loop
 loop-holds c =
-    let s = c.before.before.before in (
+    let s = c.before.before in (
       refl,
       s.requires.1,
       sym s.requires.2,
@@ -59,13 +57,13 @@ module _ (j : tie.Joined1 invariant-loop decreases-loop) where
   loop = j.before.before
 
   abbrev first : tie.Start invariant-loop decreases-loop
-  first = loop.before.before.before.before
+  first = loop.before.before.before
 
   abbrev s : Setting
   s = first.args.s
 
-  abbrev map : Map
-  map = map_of first.args.pages.now first.args.leaves.now
+  abbrev map : List ℕ
+  map = first.args.map.now
 
   most : length loop.loop.mem ≤ 2 ^ 20
   most = rw loop.loop.inv.0 first.pre.0
@@ -98,7 +96,7 @@ module _ (j : tie.Joined1 invariant-loop decreases-loop) where
 enter-requires : tie.Need-enter-requires invariant-loop decreases-loop
 enter-requires c κs =
     let l = c.before.before.before.before.before in
-    rw l.loop.invariant.0 l.before.before.before.before.requires.0
+    rw l.loop.invariant.0 l.before.before.before.requires.0
 
 added-requires : tie.Need-added-requires invariant-loop decreases-loop
 added-requires c κs =
@@ -137,7 +135,7 @@ value-requires-2 : tie.Need-value-requires-2 invariant-loop decreases-loop
 value-requires-2 c κs = (omega arith, (read c.before.before.before.before.before.before.before.before.before).small.2)
 
 -- before a form is carried out
-module _ (p : tie.After-ps invariant-loop decreases-loop) where
+module _ (p : tie.After-pages invariant-loop decreases-loop) where
   abbrev joined : tie.Joined1 invariant-loop decreases-loop
   joined = p.before.before.before.before.before.before.before.before.before.before.before.before.before.before.before.before
 
@@ -280,7 +278,7 @@ same_length c = c.before.before.before.before.before.before.before.before.loop.i
 returns : tie.Need-returns invariant-loop decreases-loop
 returns c =
     let l = c.before.before.before.before.before.before.before.before in
-    (l.loop.invariant.9, l.loop.invariant.2 ∙ l.before.before.before.before.requires.2)
+    (l.loop.invariant.9, l.loop.invariant.2 ∙ l.before.before.before.requires.2)
 
 same-length-2 : tie.Need-same-length-2 invariant-loop decreases-loop
 same-length-2 c = let a = b c.before in len a ∙ (l a).loop.inv.0
@@ -291,13 +289,13 @@ returns-2 c =
     let i = (l (b h)).loop in
     let o = off h c.if5.false in
     returned _ _ _ _ i.x i.w i.mem (x'' h) (w'' h) (m' (b h)) _ _ o.0 o.1 (same h).2 i.inv.9
-    (i.inv.2 ∙ (l (b h)).before.before.before.before.pre.2)
+    (i.inv.2 ∙ (l (b h)).before.before.before.pre.2)
 
 same-length-3 : tie.Need-same-length-3 invariant-loop decreases-loop
 same-length-3 c = c.before.loop.invariant.0
 
 returns-3 : tie.Need-returns-3 invariant-loop decreases-loop
-returns-3 c = let l = c.before in (l.loop.invariant.9, l.loop.invariant.2 ∙ l.before.before.before.before.requires.2)
+returns-3 c = let l = c.before in (l.loop.invariant.9, l.loop.invariant.2 ∙ l.before.before.before.requires.2)
 
 pub steps-spec : {M : Type 1} → statement M
 steps-spec =

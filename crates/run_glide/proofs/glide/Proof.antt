@@ -15,14 +15,14 @@ steps-requires : tie.Need-steps-requires
 steps-requires c κs =
     let i = c.before.before.before.before in
     let z = i.before.before.before in
-    let s = z.before.before.before.before.before in
+    let s = z.before.before.before.before in
     (s.requires.0, (z.sized.ensures, (i.before.waits.ensures i.if1.false).1), s.requires.1)
 
 returns-2 : tie.Need-returns-2
 returns-2 c =
     let s = c.before.before.steps in
     let i = c.before.before.before.before.before.before.before in
-    let w = i.before.before.before.before.before.before.before.before.args.w.now in (
+    let w = i.before.before.before.before.before.before.before.args.w.now in (
       rw (i.before.waits.ensures i.if1.false).0 (rw (set-get_or w PC 0) at s.ensures.0),
       setting_kept PC s.result.pc s.new.1.0 refl ∙ s.ensures.1.1,
     )

@@ -1,7 +1,6 @@
 -- `steps` meets its contract: what is left after each window, run, gives the whole. Assumes nothing.
 use mathlib.Core.Path.{◌≡◌, refl, ◌∙◌}
 use lib.ListN.{length}
-use Rattle.address_page.specs.Lent.{map_of}
 use Rattle.step_meaning.specs.declared.Source.TheVariants.{Fetch}
 use Rattle.csr_words.specs.Setting.{setting_of}
 use Rattle.run_turn.specs.Glide.{hart_at, Straight}
@@ -14,24 +13,24 @@ use Rattle.run_glide.proofs.steps.Tie as tie
 
 -- memory keeps its length, no landing pad is expected, the setting is what it was, and what is left, run, gives the whole
 abbrev invariant-loop : tie.invariant-loop
-invariant-loop x₀ w₀ first k mem₀ pages leaves budget pc₀ left₀ x w mem pc left =
+invariant-loop x₀ w₀ first k mem₀ map budget pc₀ left₀ x w mem pc left =
     (length mem ≡ length mem₀) × Straight w × (setting_of w ≡ setting_of w₀)
-    × Midway (run_from Fetch budget (hart_at pc₀ x₀ w₀) mem₀ (map_of pages leaves)) budget left Fetch (hart_at pc x w) mem (map_of pages leaves)
+    × Midway (run_from Fetch budget (hart_at pc₀ x₀ w₀) mem₀ map) budget left Fetch (hart_at pc x w) mem map
 
 abbrev decreases-loop : tie.decreases-loop
-decreases-loop x₀ w₀ first k mem₀ pages leaves budget pc₀ left₀ x w mem pc left = left
+decreases-loop x₀ w₀ first k mem₀ map budget pc₀ left₀ x w mem pc left = left
 
 loop-holds : tie.Need-loop-init invariant-loop decreases-loop
-loop-holds c = (refl, c.before.before.before.requires.1, refl, start _ _ _ _ _)
+loop-holds c = (refl, c.before.before.requires.1, refl, start _ _ _ _ _)
 
 around-requires : tie.Need-around-requires invariant-loop decreases-loop
-around-requires c κs = let l = c.before.before in rw l.loop.invariant.0 l.before.before.before.before.requires.0
+around-requires c κs = let l = c.before.before in rw l.loop.invariant.0 l.before.before.before.requires.0
 
 stretch-requires : tie.Need-stretch-requires invariant-loop decreases-loop
 stretch-requires c κs =
     let a = c.before.before.before in
     let l = a.before.before.before in
-    let s = l.before.before.before.before in
+    let s = l.before.before.before in
     (rw l.loop.invariant.0 s.requires.0, l.loop.invariant.1, rw l.loop.invariant.2 s.requires.2, a.around.ensures)
 
 -- what a window's steps leave: memory's length, the setting, and what is left of the whole
@@ -40,10 +39,10 @@ module _ (c : tie.After-stretch invariant-loop decreases-loop) where
   stands = c.before.before.before.before.before.before.before
 
   abbrev first : tie.Start invariant-loop decreases-loop
-  first = stands.before.before.before.before
+  first = stands.before.before.before
 
   abbrev whole : Run
-  whole = let a = first.args in run_from Fetch a.budget (hart_at a.start a.x.now a.w.now) a.mem.now (map_of a.pages.now a.leaves.now)
+  whole = let a = first.args in run_from Fetch a.budget (hart_at a.start a.x.now a.w.now) a.mem.now a.map.now
 
   abbrev stretched : Hart
   stretched = hart_at c.stretch.result.pc c.stretch.new.0 c.stretch.new.1.0
@@ -54,7 +53,7 @@ module _ (c : tie.After-stretch invariant-loop decreases-loop) where
   said : setting_of c.stretch.new.1.0 ≡ setting_of first.args.w.now
   said = c.stretch.ensures.1.1 ∙ stands.loop.inv.2
 
-  midway : Midway whole first.args.budget c.stretch.result.left Fetch stretched c.stretch.new.1.1.1.1.1.0 (map_of first.args.pages.now first.args.leaves.now)
+  midway : Midway whole first.args.budget c.stretch.result.left Fetch stretched c.stretch.new.1.1.1.1.1.0 first.args.map.now
   midway =
       let l = stands.loop in
       joined _ _ l.left _ Fetch (hart_at l.pc l.x l.w) stretched l.mem c.stretch.new.1.1.1.1.1.0 _ l.inv.3

@@ -1,7 +1,6 @@
 -- `stretch` meets its contract: what is left after each turn, run, gives the whole. Assumes nothing.
 use mathlib.Core.Path.{◌≡◌, refl, ◌∙◌}
 use lib.ListN.{length}
-use Rattle.address_page.specs.Lent.{map_of}
 use Rattle.step_meaning.specs.declared.Source.TheVariants.{Fetch}
 use Rattle.csr_words.specs.Setting.{setting_of}
 use Rattle.run_turn.specs.Glide.{hart_at, Straight}
@@ -13,20 +12,20 @@ use Rattle.run_glide.proofs.stretch.Tie as tie
 
 -- memory keeps its length, no landing pad is expected, the setting is what it was, and what is left, run, gives the whole
 abbrev invariant-loop : tie.invariant-loop
-invariant-loop x₀ w₀ first v k mem₀ pages leaves budget pc₀ left₀ x w mem pc left =
+invariant-loop x₀ w₀ first v k mem₀ map budget pc₀ left₀ x w mem pc left =
     (length mem ≡ length mem₀) × Straight w × (setting_of w ≡ setting_of w₀)
-    × Midway (run_from Fetch budget (hart_at pc₀ x₀ w₀) mem₀ (map_of pages leaves)) budget left Fetch (hart_at pc x w) mem (map_of pages leaves)
+    × Midway (run_from Fetch budget (hart_at pc₀ x₀ w₀) mem₀ map) budget left Fetch (hart_at pc x w) mem map
 
 abbrev decreases-loop : tie.decreases-loop
-decreases-loop x₀ w₀ first v k mem₀ pages leaves budget pc₀ left₀ x w mem pc left = left
+decreases-loop x₀ w₀ first v k mem₀ map budget pc₀ left₀ x w mem pc left = left
 
 loop-holds : tie.Need-loop-init invariant-loop decreases-loop
-loop-holds c = let s = c.before.before.before in (refl, s.requires.1, refl, start _ _ _ _ _)
+loop-holds c = let s = c.before.before in (refl, s.requires.1, refl, start _ _ _ _ _)
 
 turn-requires : tie.Need-turn-requires invariant-loop decreases-loop
 turn-requires c κs =
     let l = c.before.before.before.before in
-    let s = l.before.before.before.before in
+    let s = l.before.before.before in
     (rw l.loop.invariant.0 s.requires.0, l.loop.invariant.1, rw l.loop.invariant.2 s.requires.2, rw l.loop.invariant.0 s.requires.3)
 
 loop-again : tie.Need-loop-preserved invariant-loop decreases-loop

@@ -1,9 +1,6 @@
 -- `run_value::op_imm_32` meets its contract: a row's value, as its operation says. Assumes nothing.
 use Rattle.word.proofs.Tables.{missed}
-use Rattle.decode_base.specs.Base.{op_imm32_of, word_shift_of}
-use Rattle.isa.specs.declared.Instruction.TheVariants.{OpImm32}
-use Rattle.isa.specs.declared.WordOperation.TheVariants.{Addw}
-use Rattle.word.specs.Choice.{◌⇒◌¦◌, otherwise}
+use Rattle.decode_base.specs.Base.{op_imm32_of, op_imm32s, word_shift_of}
 use Rattle.step_meaning.specs.Instruction.{execute_of}
 use Rattle.run_value.proofs.Rows.{row_told, next_told}
 use borrow.Author.Rules.{rules}
@@ -15,7 +12,7 @@ unfolding op_imm32_of
 returns-2 c b =
     let a = c.before.before.args in
     next_told c.word-shifts.result (op_imm32_of a.f a.v) (word_shift_of a.f) a.f a.a b
-    (missed _ (0b000 ⇒ OpImm32 Addw a.f.rd a.f.rs1 a.v ¦ otherwise (word_shift_of a.f)) c.before.match.rest) (c.word-shifts.ensures b)
+    (missed _ (op_imm32s a.f a.v) c.before.match.rest) (c.word-shifts.ensures b)
 
 pub op-imm-32-spec : {M : Type 1} → statement M
 unfolding op_imm32_of execute_of

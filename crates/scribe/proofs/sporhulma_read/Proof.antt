@@ -1,8 +1,8 @@
 -- `scribe::sporhulma_read` meets its contract: the numbers of what the word reads as, and whether they have a family. Assumes nothing.
 use mathlib.Core.Path.{◌∙◌}
 use borrow.Author.Rules.{rules}
-use Rattle.word.specs.Choice.{◌⇒◌¦◌, otherwise}
 use Rattle.word.proofs.Tables.{missed, hit}
+use Rattle.scribe.specs.Boundary.{read_results}
 use Rattle.scribe.proofs.Lists.{result-of, left_of_lem}
 use Rattle.scribe.proofs.sporhulma_read.Statement.{statement}
 use Rattle.scribe.proofs.sporhulma_read.Tie as tie
@@ -16,8 +16,8 @@ sporhulma-read-spec =
     (λ c.
     let e = c.before.before.of-instruction.ensures in
     let d = c.before.before.before.decode.ensures in
-    (hit (0 ⇒ 5 ¦ otherwise 0) c.match.keys1 ∙ result-of _ _ _ e d, left_of_lem _ _ _ e d))
+    (hit read_results c.match.keys1 ∙ result-of _ _ _ e d, left_of_lem _ _ _ e d))
     (λ c.
     let e = c.before.before.of-instruction.ensures in
     let d = c.before.before.before.decode.ensures in
-    (missed _ (0 ⇒ 5 ¦ otherwise 0) c.match.rest ∙ result-of _ _ _ e d, left_of_lem _ _ _ e d)))
+    (missed _ read_results c.match.rest ∙ result-of _ _ _ e d, left_of_lem _ _ _ e d)))

@@ -1,7 +1,6 @@
 -- `sporhulma::call` meets its contract: where no refusal applies the run's words, else those that were given. Assumes nothing.
 use borrow.Author.Tests.{ne_eqb}
 use mathlib.Core.Path.{refl, sym, ap, ◌∙◌}
-use Rattle.address_page.specs.Lent.{Columns, map_of}
 use Rattle.step_hart.specs.Hart.{hart}
 use Rattle.step_hart.specs.Run.{Run, run_from}
 use Rattle.step_hart.specs.declared.Hart.{Hart}
@@ -20,10 +19,10 @@ returns : tie.Need-returns
 returns c =
     let r = c.before.before.before.before in
     let i = r.before.before.before.before in
-    let a = i.before.before.before.before.before.before.before.before.args in
-    let run : Run = run_from a.source a.budget (hart a.x.now a.rest.now) a.mem.now (map_of a.pages.now a.leaves.now) in
+    let a = i.before.before.before.before.before.before.before.args in
+    let run : Run = run_from a.source a.budget (hart a.x.now a.rest.now) a.mem.now a.map.now in
     let (answer, (left, memory)) = r.run.ensures in
-    rw (taken a.source a.budget a.x.now a.rest.now a.mem.now (Columns a.pages.now a.leaves.now)
+    rw (taken a.source a.budget a.x.now a.rest.now a.mem.now a.map.now
     (sym i.before.run-refusal.ensures ∙ i.if1.true)) (
       refl,
       (
@@ -39,9 +38,9 @@ returns-2 : tie.Need-returns-2
 returns-2 c =
     let i = c.before.before in
     let n = i.before.run-refusal in
-    let a = i.before.before.before.before.before.before.before.before.args in
+    let a = i.before.before.before.before.before.before.before.args in
     let z = ne_eqb n.result 0 i.if1.false in
-    rw (refused a.source a.budget a.x.now a.rest.now a.mem.now (Columns a.pages.now a.leaves.now) (rw n.ensures at z))
+    rw (refused a.source a.budget a.x.now a.rest.now a.mem.now a.map.now (rw n.ensures at z))
     (c.refused.ensures.0 ∙ n.ensures, (refl, (refl, (refl, c.refused.ensures.1))))
 
 pub call-spec : {M : Type 1} → statement M

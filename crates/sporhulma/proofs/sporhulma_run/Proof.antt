@@ -1,5 +1,4 @@
 -- `sporhulma::sporhulma_run` meets its contract: it is a run whose first word comes from a source. Assumes nothing.
-use Rattle.address_page.specs.Lent.{Columns}
 use Rattle.sporhulma.proofs.One.{run_one}
 use borrow.Author.Rules.{rules}
 use Rattle.sporhulma.proofs.sporhulma_run.Statement.{statement}
@@ -7,8 +6,8 @@ use Rattle.sporhulma.proofs.sporhulma_run.Tie as tie
 
 returns : tie.Need-returns
 returns c =
-    let a = c.before.before.before.before.before.before.before.before.before.before.args in
-    rw (run_one a.x.now a.rest.now a.mem.now (Columns a.pages.now a.leaves.now) a.budget) c.before.before.call.ensures
+    let a = c.before.before.before.before.before.before.before.before.before.args in
+    rw (run_one a.x.now a.rest.now a.mem.now a.map.now a.budget) c.before.before.call.ensures
 
 pub sporhulma-run-spec : {M : Type 1} → statement M
 sporhulma-run-spec =

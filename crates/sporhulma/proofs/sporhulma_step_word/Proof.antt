@@ -1,5 +1,4 @@
 -- `sporhulma::sporhulma_step_word` meets its contract: it is a run whose first word comes from a source. Assumes nothing.
-use Rattle.address_page.specs.Lent.{Columns}
 use Rattle.sporhulma.proofs.One.{step_word_one}
 use borrow.Author.Rules.{rules}
 use Rattle.sporhulma.proofs.sporhulma_step_word.Statement.{statement}
@@ -7,8 +6,8 @@ use Rattle.sporhulma.proofs.sporhulma_step_word.Tie as tie
 
 returns : tie.Need-returns
 returns c =
-    let a = c.before.before.before.before.before.before.before.before.before.before.args in
-    rw (step_word_one a.x.now a.rest.now a.mem.now (Columns a.pages.now a.leaves.now) a.word) c.before.before.call.ensures
+    let a = c.before.before.before.before.before.before.before.before.before.args in
+    rw (step_word_one a.x.now a.rest.now a.mem.now a.map.now a.word) c.before.before.call.ensures
 
 pub sporhulma-step-word-spec : {M : Type 1} → statement M
 sporhulma-step-word-spec =

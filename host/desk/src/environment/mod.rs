@@ -228,7 +228,7 @@ fn go_back(state: &mut State, map: &PageMap) -> Result<(), Failure> {
     };
     let State { hart, mem, .. } = state;
     hart.rest[epc] = hart.rest[epc].wrapping_add(4);
-    let answer = sporhulma::step_word(hart, mem, &map.columns, back);
+    let answer = sporhulma::step_word(hart, mem, &map.words, back);
     match (answer.refusal, answer.trapped) {
         (0, false) => Ok(()),
         _ => Err(Failure::Tool(

@@ -10,7 +10,7 @@ use formats::csr::field::{
 };
 use formats::extensions::{drawn, ABSENT};
 pub use formats::random::Random;
-use sporhulma::{word, Hart, Map};
+use sporhulma::{word, Hart};
 use std::collections::BTreeSet;
 
 /// Memories to try, and harts and maps with each. Harts meet few of a memory's words, so it takes many memories until every
@@ -67,7 +67,7 @@ pub fn map(random: &mut Random) -> PageMap {
         let flip = random.pick(&[0, 0, 0, 0, 0x10, 0x40, 0x80, 1, 2, 8, 1 << 54]);
         let leaf = frame << 10 | random.pick(&[usual, usual, other]) ^ flip;
         map.entries.push(Entry { page, leaf, line });
-        map.columns.push(page as u32, leaf);
+        map.words.extend([page, leaf]);
     }
     map
 }
@@ -187,7 +187,7 @@ fn an_explanation_that_does_not_agree_is_not_given() {
     };
     let mut after = before.clone();
     let map = PageMap::default();
-    let answer = sporhulma::step(&mut after.hart, &mut after.mem, &map.columns);
+    let answer = sporhulma::step(&mut after.hart, &mut after.mem, &map.words);
     assert_eq!(answer.cause, 2);
     let trap = Trap::explain(&before, &map, &Symbols::default(), &after.hart, 3);
     assert_eq!(trap.rows.len(), 2);
@@ -204,7 +204,7 @@ fn every_csr_address_is_known_or_not_as_the_hart_has_it() {
     for address in 0..4096 {
         let mut hart = Hart::fresh();
         let read = u32::from(address) << 20 | 0x2573; // csrr a0, address
-        let answer = sporhulma::step_word(&mut hart, &mut [0; 4096], &Map::new(), read);
+        let answer = sporhulma::step_word(&mut hart, &mut [0; 4096], &[], read);
         assert_eq!(
             answer.trapped,
             disasm::csr_name(address).is_none(),

@@ -9,7 +9,7 @@ use crate::map::{Entry, PageMap, A, D, PAGE};
 use crate::names::U;
 use crate::place::{follow, Access, Kind, Refused};
 use formats::csr::field::{MXR, SSE, SV39};
-use sporhulma::{word, Hart, Map, BASE};
+use sporhulma::{word, Hart, BASE};
 use std::collections::BTreeMap;
 use std::ops::Range;
 
@@ -158,7 +158,7 @@ fn with_sse(hart: &Hart) -> Hart {
 fn refusal(hart: &Hart, entry: Entry, kind: Kind) -> Option<Refused> {
     let map = PageMap {
         entries: vec![entry],
-        columns: Map::from([entry.columns()]),
+        words: vec![entry.page, entry.leaf],
     };
     let access = Access {
         kind,

@@ -130,7 +130,7 @@ impl Pages {
         case.map.clear();
         for (number, rights, user, place) in entries {
             let leaf = leaf(random, rights, user, place);
-            case.map.push(number as u32, leaf);
+            case.map.extend([number, leaf]);
         }
     }
 
@@ -151,9 +151,8 @@ impl Pages {
 pub fn spoil(random: &mut Random, case: &mut Case) {
     match random.below(32) {
         0 => {
-            let leaves = &mut case.map.leaves;
-            let at = random.below(leaves.len() as u64) as usize;
-            leaves[at] = spoiled(random, leaves[at], FRAMES as u64);
+            let at = 2 * random.below(case.map.len() as u64 / 2) as usize + 1;
+            case.map[at] = spoiled(random, case.map[at], FRAMES as u64);
         }
         1..=3 => lengthen(random, case, ENTRIES),
         _ => {}
@@ -215,7 +214,7 @@ mod tests {
             let plan = Plan::random(random);
             let pages = Pages::random(random, &plan);
             pages.write_map(random, &plan, &mut case);
-            let numbers = &case.map.pages;
+            let numbers: Vec<u64> = case.map.iter().step_by(2).copied().collect();
             assert_eq!(numbers.len(), 4 * CODE + SINGLES + CROWD);
             assert!(numbers.windows(2).all(|two| two[0] < two[1]), "{numbers:?}");
             let code = pages.world.pages[Role::Code as usize].number;

@@ -7,7 +7,7 @@ use super::make::{AROUND, SWEPT};
 use super::sorts::*;
 use super::store::{stored, Stored};
 use crate::again::{place_at, take_again, Step};
-use crate::case::{Case, Map, PAGE};
+use crate::case::{Case, PAGE};
 use crate::lifted::access;
 use crate::mix::list;
 use crate::state::View;
@@ -184,7 +184,7 @@ impl Seen {
         Some(stay)
     }
 
-    fn note_step(&mut self, step: &Step, map: &Map) {
+    fn note_step(&mut self, step: &Step, map: &[u64]) {
         let fetched = !(step.answer.trapped && [1, 12].contains(&step.answer.cause));
         let place = place_at(step.before, map);
         let stay = self.note_way(step, place);

@@ -1,6 +1,5 @@
 //! What a step stored, and where: for those who count patches, and for those who plant a fault.
 
-use crate::case::Map;
 use crate::simulator::by_second;
 use second::Kind;
 use sporhulma::Hart;
@@ -22,7 +21,7 @@ pub struct Stored {
 }
 
 /// What a word that did not trap has stored; `before` is the hart before it.
-pub fn stored(before: &Hart, word: u32, map: &Map) -> Option<Stored> {
+pub fn stored(before: &Hart, word: u32, map: &[u64]) -> Option<Stored> {
     let hart = by_second(before);
     let access = second::access(&hart, word)?;
     let by = match (access.kind, access.width) {

@@ -178,7 +178,7 @@ fn copy_code(image: &mut [u8]) {
 }
 
 /// Writes the page tables into memory for QEMU, and gives the map for our side.
-fn write_tables(image: &mut [u8], way: Way) -> Map {
+fn write_tables(image: &mut [u8], way: Way) -> Vec<u64> {
     use formats::leaf::{A, D, R, U, V, W, X};
     let [root, next, leaves] = TABLES;
     let mut entry = |table: u64, at: u64, word: u64| {
@@ -205,7 +205,7 @@ fn write_tables(image: &mut [u8], way: Way) -> Map {
     let of = |base: u64| {
         pages
             .iter()
-            .map(move |(page, leaf)| (((base >> 12) + page) as u32, *leaf))
+            .flat_map(move |(page, leaf)| [(base >> 12) + page, *leaf])
     };
     of(VIRTUAL).chain(of(BASE)).collect()
 }

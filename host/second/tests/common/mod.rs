@@ -5,7 +5,6 @@
 //! Each test file uses a part of it, hence the allowance for what one of them leaves unused.
 #![allow(dead_code)]
 
-pub use second::Map;
 use second::{run, step, step_word, Answer, Hart};
 
 pub const USER: u64 = 0;
@@ -59,7 +58,7 @@ pub const MRET: u32 = 0x3020_0073;
 pub struct World {
     pub h: Hart,
     pub mem: Vec<u8>,
-    pub map: Map,
+    pub map: Vec<u64>,
 }
 
 /// A legal hart in this mode, with pc at the start of sixteen pages of memory and no map.
@@ -71,7 +70,7 @@ pub fn world(mode: u64) -> World {
     World {
         h: Hart::from_words(&[0; 32], &rest),
         mem: vec![0; 16 * 4_096],
-        map: Map::new(),
+        map: Vec::new(),
     }
 }
 
@@ -79,7 +78,7 @@ pub fn world(mode: u64) -> World {
 pub fn paged(mode: u64, flags: u64) -> World {
     let mut w = world(mode);
     w.h.satp = SV39;
-    w.map = Map::from([(5, leaf(1, flags))]);
+    w.map = vec![5, leaf(1, flags)];
     w
 }
 

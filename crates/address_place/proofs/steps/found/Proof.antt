@@ -13,4 +13,4 @@ returns-2 : tie.Need-returns-2
 returns-2 c = rw (sym c.before.canonical.ensures ∙ c.if1.false)
 
 pub found-spec : {M : Type 1} → statement M
-found-spec = tie.close (tie.spec (λ c κs. search rules) (λ c. search rules) (λ c κs. search rules) returns returns-2)
+found-spec = tie.close (tie.spec (λ c κs. search rules) (λ c κs. search rules) returns returns-2)

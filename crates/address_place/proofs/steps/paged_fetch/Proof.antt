@@ -1,6 +1,5 @@
 -- `address_place::steps::paged_fetch` meets its contract: an entry or none. Assumes nothing.
 use mathlib.Core.Path.{sym, ◌∙◌}
-use Rattle.address_page.specs.Lent.{map_of}
 use Rattle.isa.specs.declared.Width.TheVariants.{Word}
 use Rattle.isa.specs.declared.Kind.TheVariants.{Fetch}
 use Rattle.address_place.proofs.Entry.{paged_through}
@@ -13,9 +12,9 @@ returns : tie.Need-returns
 unfolding through_of
 returns c =
     let f = c.before.before.before in
-    let a = f.before.before.before.args in
+    let a = f.before.before.args in
     rw (
-      paged_through a.g Fetch Word a.t.0 a.len (map_of a.pages.now a.leaves.now),
+      paged_through a.g Fetch Word a.t.0 a.len a.map.now,
       sym f.found.ensures
           ∙ c.before.enum_told.given.1,
       c.page_fault_lem.ensures,
@@ -27,9 +26,9 @@ returns-2 c =
     let j = c.before.before in
     let e = j.before.before in
     let f = e.before.before in
-    let a = f.before.before.before.args in
+    let a = f.before.before.args in
     rw (
-      paged_through a.g Fetch Word a.t.0 a.len (map_of a.pages.now a.leaves.now),
+      paged_through a.g Fetch Word a.t.0 a.len a.map.now,
       sym f.found.ensures
           ∙ e.e.given.1,
       ← j.judge-fetch.ensures,

@@ -3,7 +3,6 @@
 use mathlib.Core.Bool.{true}
 use mathlib.Core.Path.{◌≡◌, sym, ◌∙◌}
 use native.Mathlib.Omega.{arith}
-use Rattle.address_page.specs.Lent.{map_of}
 use Rattle.address_place.proofs.Flat.{data_flat}
 use lib.ListN.{length}
 use borrow.Author.Rules.{rules}
@@ -12,10 +11,10 @@ use Rattle.address_place.proofs.steps.quick_data.Tie as tie
 
 returns : tie.Need-returns
 returns c =
-    let s = c.before.before.before.before.before in
+    let s = c.before.before.before.before in
     let a = s.args in
     let known : a.flat ≡ true = c.before.if1.true in
-    c.plainly.ensures ∙ sym (data_flat a.c a.k a.w a.a.0 (map_of a.pages.now a.leaves.now) (length a.mem.now) (sym s.requires.1 ∙ known) s.requires.2
+    c.plainly.ensures ∙ sym (data_flat a.c a.k a.w a.a.0 a.map.now (length a.mem.now) (sym s.requires.1 ∙ known) s.requires.2
     s.requires.3 (omega arith))
 
 pub quick-data-spec : {M : Type 1} → statement M

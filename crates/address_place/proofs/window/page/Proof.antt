@@ -2,7 +2,6 @@
 use mathlib.Core.Path.{◌≡◌, sym, ◌∙◌}
 use Prim.Native.Nat.{◌-◌, ◌%◌}
 use native.Mathlib.Omega.{arith}
-use Rattle.address_page.specs.Lent.{map_of}
 use Rattle.isa.specs.declared.Width.TheVariants.{Word}
 use Rattle.isa.specs.declared.Kind.TheVariants.{Fetch}
 use Rattle.address_place.specs.Place.{place_of}
@@ -17,28 +16,28 @@ use Rattle.address_place.proofs.window.page.Tie as tie
 sub_at : tie.Need-overflow-sub-at
 sub_at c =
     let f = c.before.before.before.before in
-    let a = f.before.before.before.before.args in
+    let a = f.before.before.before.args in
     let q = c.before.before.q.given in
-    (place_within a.c Fetch Word (a.a - a.a % 4096) (map_of a.pages.now a.leaves.now) (length a.mem.now) q.0.0 (sym f.fetch.ensures ∙ q.1)).0
+    (place_within a.c Fetch Word (a.a - a.a % 4096) a.map.now (length a.mem.now) q.0.0 (sym f.fetch.ensures ∙ q.1)).0
 
 returns : tie.Need-returns
 returns c =
     let f = c.before.before.before.before.before in
-    let s = f.before.before.before.before in
+    let s = f.before.before.before in
     let a = s.args in
     let q = c.before.before.before.q.given in
-    let there : place_of a.c Fetch Word (a.a - a.a % 4096) (map_of a.pages.now a.leaves.now) (length a.mem.now) ≡ At q.0.0 = sym f.fetch.ensures ∙ q.1 in
-    let within = place_within a.c Fetch Word (a.a - a.a % 4096) (map_of a.pages.now a.leaves.now) (length a.mem.now) q.0.0 there in
-    page_shows a.c (a.a - a.a % 4096) (map_of a.pages.now a.leaves.now) (length a.mem.now) q.0.0 s.requires.1 (omega arith) there s.requires.0 within.0
+    let there : place_of a.c Fetch Word (a.a - a.a % 4096) a.map.now (length a.mem.now) ≡ At q.0.0 = sym f.fetch.ensures ∙ q.1 in
+    let within = place_within a.c Fetch Word (a.a - a.a % 4096) a.map.now (length a.mem.now) q.0.0 there in
+    page_shows a.c (a.a - a.a % 4096) a.map.now (length a.mem.now) q.0.0 s.requires.1 (omega arith) there s.requires.0 within.0
     c.if1.true (omega arith)
 
 returns-2 : tie.Need-returns-2
 returns-2 c =
-    let a = c.before.before.before.before.before.before.before.before.before.before.args in
-    c.closed.ensures a.c (map_of a.pages.now a.leaves.now) (length a.mem.now)
+    let a = c.before.before.before.before.before.before.before.before.before.args in
+    c.closed.ensures a.c a.map.now (length a.mem.now)
 
 returns-3 : tie.Need-returns-3
-returns-3 c = let a = c.before.before.before.before.before.before.before.args in c.closed2.ensures a.c (map_of a.pages.now a.leaves.now) (length a.mem.now)
+returns-3 c = let a = c.before.before.before.before.before.before.args in c.closed2.ensures a.c a.map.now (length a.mem.now)
 
 pub page-spec : {M : Type 1} → statement M
 page-spec =

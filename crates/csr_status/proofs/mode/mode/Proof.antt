@@ -1,8 +1,6 @@
 -- `csr_status::mode::mode` meets its contract: an arm of the match is a row of the table. Assumes nothing.
 use Rattle.word.proofs.Tables.{missed}
-use Rattle.csr_status.specs.Mode.{mode_of}
-use Rattle.isa.specs.declared.Mode.TheVariants.{User, Supervisor, Machine}
-use Rattle.word.specs.Choice.{◌⇒◌¦◌, otherwise}
+use Rattle.csr_status.specs.Mode.{modes, mode_of}
 use Rattle.csr_status.proofs.mode.mode.Statement.{statement}
 use Rattle.csr_status.proofs.mode.mode.Tie as tie
 
@@ -16,7 +14,7 @@ returns-2 c = rw c.match.keys2
 
 returns-3 : tie.Need-returns-3
 unfolding mode_of
-returns-3 c = missed _ (3 ⇒ Machine ¦ 1 ⇒ Supervisor ¦ otherwise User) c.match.rest
+returns-3 c = missed _ modes c.match.rest
 
 pub mode-spec : {M : Type 1} → statement M
 mode-spec = tie.close (tie.spec returns returns-2 returns-3)

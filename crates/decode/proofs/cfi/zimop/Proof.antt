@@ -1,4 +1,4 @@
--- `decode::cfi::zimop` meets its contract: the rows of `zimops`, the word that reads ssp, and `mop`. Assumes nothing.
+-- `decode::cfi::zimop` meets its contract: the rows of `zimops` and of `reads`, and `mop`. Assumes nothing.
 use borrow.Author.Rules.{rules}
 use borrow.Author.Tests.{ne_eqb}
 use Rattle.word.proofs.Tables.{missed}

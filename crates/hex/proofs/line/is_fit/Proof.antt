@@ -2,9 +2,8 @@
 use mathlib.Core.Bool.{Bool, true, false, ◌&&◌}
 use mathlib.Core.Path.{◌≡◌, refl, ◌∙◌}
 use borrow.Author.Rules.{rules}
-use Rattle.word.specs.Choice.{◌⇒◌¦◌, otherwise}
 use Rattle.word.proofs.Tables.{missed}
-use Rattle.hex.specs.Line.{shaped, is_read, inside}
+use Rattle.hex.specs.Line.{shaped, record_types, is_read, inside}
 use Rattle.hex.proofs.line.is_fit.Statement.{statement}
 use Rattle.hex.proofs.line.is_fit.Tie as tie
 
@@ -34,7 +33,7 @@ returns-4 c = rw c.before.match.keys4 (c.fixed3.ensures ∙ also _)
 
 returns-5 : tie.Need-returns-5
 unfolding is_read
-returns-5 c = let s = c.before.args in never (shaped s.kind s.count s.offset) _ _ (missed s.kind (0 ⇒ true ¦ 1 ⇒ true ¦ 4 ⇒ true ¦ 5 ⇒ true ¦ otherwise false) c.match.rest)
+returns-5 c = let s = c.before.args in never (shaped s.kind s.count s.offset) _ _ (missed s.kind record_types c.match.rest)
 
 pub is-fit-spec : {M : Type 1} → statement M
 is-fit-spec =

@@ -5,7 +5,6 @@ use Prim.Native.Nat.{ℕ, ◌-◌, ◌<◌, ◌≤◌}
 use lib.ListN.{length}
 use native.Mathlib.Omega.{arith}
 use borrow.Author.Rules.{rules}
-use Rattle.address_page.specs.Lent.{map_of}
 use Rattle.step_meaning.specs.declared.Source.TheVariants.{Fetch}
 use Rattle.step_hart.specs.Hart.{hart}
 use Rattle.step_hart.specs.Run.{Run, run_from, Midway}
@@ -17,11 +16,11 @@ use Rattle.run_engine.proofs.run.long.Tie as tie
 
 -- memory keeps its length, and what is left, run, gives what the first call of the fast path left
 abbrev invariant-loop : tie.invariant-loop
-invariant-loop x₀ w₀ mem₀ pages leaves budget left₀ steps₀ wait₀ x w mem left steps wait =
-    (length mem ≡ length mem₀) × Midway (run_from Fetch left₀ (hart x₀ w₀) mem₀ (map_of pages leaves)) left₀ left Fetch (hart x w) mem (map_of pages leaves)
+invariant-loop x₀ w₀ mem₀ map budget left₀ steps₀ wait₀ x w mem left steps wait =
+    (length mem ≡ length mem₀) × Midway (run_from Fetch left₀ (hart x₀ w₀) mem₀ map) left₀ left Fetch (hart x w) mem map
 
 abbrev decreases-loop : tie.decreases-loop
-decreases-loop x₀ w₀ mem₀ pages leaves budget left₀ steps₀ wait₀ x w mem left steps wait = left
+decreases-loop x₀ w₀ mem₀ map budget left₀ steps₀ wait₀ x w mem left steps wait = left
 
 loop-holds : tie.Need-loop-init invariant-loop decreases-loop
 loop-holds c = (refl, start _ _ _ _ _)
@@ -32,10 +31,10 @@ module _ (l : tie.At-loop invariant-loop decreases-loop) where
   fast = l.before.before.before
 
   abbrev first : tie.Start invariant-loop decreases-loop
-  first = fast.before.before.before.before.before.before.before
+  first = fast.before.before.before.before.before.before
 
   abbrev whole : Run
-  whole = let a = first.args in run_from Fetch a.budget (hart a.x.now a.w.now) a.mem.now (map_of a.pages.now a.leaves.now)
+  whole = let a = first.args in run_from Fetch a.budget (hart a.x.now a.w.now) a.mem.now a.map.now
 
   abbrev stands : Hart
   stands = hart l.loop.x l.loop.w
@@ -43,7 +42,7 @@ module _ (l : tie.At-loop invariant-loop decreases-loop) where
   len : length l.loop.mem ≡ length first.args.mem.now
   len = l.loop.inv.0 ∙ fast.fast.kept.1.1.0
 
-  midway : Midway whole first.args.budget l.loop.left Fetch stands l.loop.mem (map_of first.args.pages.now first.args.leaves.now)
+  midway : Midway whole first.args.budget l.loop.left Fetch stands l.loop.mem first.args.map.now
   midway =
       joined _ _ fast.fast.result _ Fetch (hart fast.fast.last.0 fast.fast.last.1.0) stands fast.fast.last.1.1.0 l.loop.mem _
       fast.fast.ensures l.loop.inv.1
@@ -73,8 +72,8 @@ module _ (o : tie.After-short invariant-loop decreases-loop) where
 
   onward : o.short.result.trapped ≡ false
       → Midway (run_from Fetch (fast loop).fast.result (hart (fast loop).fast.last.0 (fast loop).fast.last.1.0) (fast loop).fast.last.1.1.0
-      (map_of (first loop).args.pages.now (first loop).args.leaves.now)) (fast loop).fast.result (loop.loop.left - steps) Fetch ran o.short.last.1.1.1.0
-      (map_of (first loop).args.pages.now (first loop).args.leaves.now)
+      (first loop).args.map.now) (fast loop).fast.result (loop.loop.left - steps) Fetch ran o.short.last.1.1.1.0
+      (first loop).args.map.now
   onward q =
       passes _ _ _ steps Fetch (stands loop) loop.loop.mem _ loop.loop.inv.1 le o.short.result ran o.short.last.1.1.1.0
       o.short.ensures some q
@@ -86,7 +85,7 @@ add-report : tie.Need-overflow-add-report invariant-loop decreases-loop
 add-report c =
     let o = c.before.before.before.before in
     let l = loop o in
-    let n = told_within (steps o) Fetch (stands l) l.loop.mem (map_of (first l).args.pages.now (first l).args.leaves.now) o.short.result o.short.ensures.0 in
+    let n = told_within (steps o) Fetch (stands l) l.loop.mem (first l).args.map.now o.short.result o.short.ensures.0 in
     omega (arith, n, le o, (midway l).0, (first l).fits.budget.fits)
 
 returns : tie.Need-returns invariant-loop decreases-loop

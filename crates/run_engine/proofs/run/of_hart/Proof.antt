@@ -1,6 +1,5 @@
 -- `run::of_hart` meets its contract: the run of its registers and words. Assumes nothing.
 use mathlib.Core.Path.{◌≡◌}
-use Rattle.address_page.specs.Lent.{map_of}
 use Rattle.step_hart.specs.Run.{Run, run_from}
 use Rattle.step_hart.specs.declared.Hart.{Hart}
 use Rattle.run_engine.specs.Told.{told_of, ran_of}
@@ -18,8 +17,8 @@ ran run h t e f = rw (e, f)
 returns : tie.Need-returns
 returns c =
     let r = c.before.before.run in
-    let a = c.before.before.before.before.before.before.before.before.before.before.before.args in
-    (ran (run_from a.source a.budget a.h a.mem.now (map_of a.pages.now a.leaves.now)) _ r.result r.ensures.1.0 r.ensures.0, r.ensures.1.1)
+    let a = c.before.before.before.before.before.before.before.before.before.before.args in
+    (ran (run_from a.source a.budget a.h a.mem.now a.map.now) _ r.result r.ensures.1.0 r.ensures.0, r.ensures.1.1)
 
 pub of-hart-spec : {M : Type 1} → statement M
 of-hart-spec = tie.close (tie.spec (λ c κs. search rules) (λ c. search rules) returns)

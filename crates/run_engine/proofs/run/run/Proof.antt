@@ -2,7 +2,6 @@
 use Prim.Native.Nat.{ℕ, ◌-◌, ◌<◌, ◌≤◌}
 use native.Mathlib.Omega.{arith}
 use borrow.Author.Rules.{rules}
-use Rattle.address_page.specs.Lent.{map_of}
 use Rattle.step_meaning.specs.declared.Source.TheVariants.{Fetch}
 use Rattle.step_hart.specs.Hart.{hart}
 use Rattle.step_hart.specs.declared.Hart.{Hart}
@@ -16,7 +15,7 @@ module _ (o : tie.After-short) where
   given = o.before.before.before.before
 
   abbrev first : tie.Start
-  first = given.before.before.before.before
+  first = given.before.before.before
 
   abbrev steps : ℕ
   steps = given.few.result
@@ -34,14 +33,14 @@ returns : tie.Need-returns
 returns c =
     let o = c.before.before.before in
     let a = (first o).args in
-    ends_first a.source a.budget (steps o) (stands o) a.mem.now (map_of a.pages.now a.leaves.now) (le o) o.short.result (ran o) o.short.new.1.1.1.0
+    ends_first a.source a.budget (steps o) (stands o) a.mem.now a.map.now (le o) o.short.result (ran o) o.short.new.1.1.1.0
     o.short.ensures c.if1.true
 
 returns-2 : tie.Need-returns-2
 returns-2 c =
     let o = c.before.before.before.before in
     let a = (first o).args in
-    ends_there a.source a.budget (steps o) (stands o) a.mem.now (map_of a.pages.now a.leaves.now) (le o) o.short.result (ran o) o.short.new.1.1.1.0
+    ends_there a.source a.budget (steps o) (stands o) a.mem.now a.map.now (le o) o.short.result (ran o) o.short.new.1.1.1.0
     o.short.ensures c.if2.true
 
 -- after the others
@@ -57,7 +56,7 @@ module _ (u : tie.After-long) where
 
   fewer : u.long.result.count ≤ (first short).args.budget - steps short
   fewer =
-      told_within ((first short).args.budget - steps short) Fetch (ran short) short.short.last.1.1.1.0 (map_of (first short).args.pages.now (first short).args.leaves.now)
+      told_within ((first short).args.budget - steps short) Fetch (ran short) short.short.last.1.1.1.0 (first short).args.map.now
       u.long.result u.long.ensures.0
 
 add-report : tie.Need-overflow-add-report
@@ -70,7 +69,7 @@ returns-3 c =
     let u = c.before.before.before.before in
     let o = short u in
     let a = (first o).args in
-    ends_later a.source a.budget (steps o) (stands o) a.mem.now (map_of a.pages.now a.leaves.now) (le o) o.short.result (ran o) o.short.last.1.1.1.0
+    ends_later a.source a.budget (steps o) (stands o) a.mem.now a.map.now (le o) o.short.result (ran o) o.short.last.1.1.1.0
     o.short.ensures (some u) (other u).before.if1.false u.long.result c.report.result _ _ u.long.ensures c.report.ensures
 
 pub run_spec : {M : Type 1} → statement M

@@ -5,7 +5,6 @@ use Prim.Native.Nat.{◌-◌, ◌<◌}
 use lib.ListN.{length}
 use native.Mathlib.Omega.{arith}
 use borrow.Author.Rules.{rules}
-use Rattle.address_page.specs.Lent.{map_of}
 use Rattle.csr_words.specs.Setting.{setting_of}
 use Rattle.step_meaning.specs.Context.{Knows}
 use Rattle.step_hart.specs.Hart.{hart}
@@ -18,11 +17,11 @@ use Rattle.run_engine.proofs.run.short.Tie as tie
 
 -- memory keeps its length, the setting is that of the words, and what is left, run, gives the whole
 abbrev invariant-loop : tie.invariant-loop
-invariant-loop x₀ w₀ mem₀ pages leaves budget from₀ left₀ k₀ x w mem from left k =
-    (length mem ≡ length mem₀) × Knows k (setting_of w) × Midway (run_from from₀ budget (hart x₀ w₀) mem₀ (map_of pages leaves)) budget left from (hart x w) mem (map_of pages leaves)
+invariant-loop x₀ w₀ mem₀ map budget from₀ left₀ k₀ x w mem from left k =
+    (length mem ≡ length mem₀) × Knows k (setting_of w) × Midway (run_from from₀ budget (hart x₀ w₀) mem₀ map) budget left from (hart x w) mem map
 
 abbrev decreases-loop : tie.decreases-loop
-decreases-loop x₀ w₀ mem₀ pages leaves budget from₀ left₀ k₀ x w mem from left k = left
+decreases-loop x₀ w₀ mem₀ map budget from₀ left₀ k₀ x w mem from left k = left
 
 loop-holds : tie.Need-loop-init invariant-loop decreases-loop
 loop-holds c = (refl, c.known.ensures, start _ _ _ _ _)
@@ -30,7 +29,7 @@ loop-holds c = (refl, c.known.ensures, start _ _ _ _ _)
 glide-requires : tie.Need-glide-requires invariant-loop decreases-loop
 glide-requires c κs =
     let l = c.before.before.before.before in
-    (rw l.loop.invariant.0 l.before.before.before.before.before.before.requires, l.loop.invariant.1)
+    (rw l.loop.invariant.0 l.before.before.before.before.before.requires, l.loop.invariant.1)
 
 -- after the quick way: memory's length, and what is left of the whole
 module _ (g : tie.After-glide invariant-loop decreases-loop) where
@@ -38,12 +37,12 @@ module _ (g : tie.After-glide invariant-loop decreases-loop) where
   loop = g.before.before.before.before.before
 
   abbrev first : tie.Start invariant-loop decreases-loop
-  first = loop.before.before.before.before.before.before
+  first = loop.before.before.before.before.before
 
   abbrev whole : Run
   whole =
       let a = first.args in
-      run_from a.source a.budget (hart a.x.now a.w.now) a.mem.now (map_of a.pages.now a.leaves.now)
+      run_from a.source a.budget (hart a.x.now a.w.now) a.mem.now a.map.now
 
   abbrev glided : Hart
   glided = hart g.glide.last.0 g.glide.last.1.0
@@ -51,7 +50,7 @@ module _ (g : tie.After-glide invariant-loop decreases-loop) where
   len : length g.glide.last.1.1.1.1.0 ≡ length first.args.mem.now
   len = g.glide.kept.1.1.1.1.0 ∙ loop.loop.inv.0
 
-  midway : Midway whole first.args.budget g.glide.result loop.loop.from glided g.glide.last.1.1.1.1.0 (map_of first.args.pages.now first.args.leaves.now)
+  midway : Midway whole first.args.budget g.glide.result loop.loop.from glided g.glide.last.1.1.1.1.0 first.args.map.now
   midway =
       let l = loop.loop in
       joined _ _ l.left _ l.from (hart l.x l.w) glided l.mem g.glide.last.1.1.1.1.0 _ l.inv.2 g.glide.ensures.0
@@ -69,7 +68,7 @@ module _ (o : tie.After-one invariant-loop decreases-loop) where
 
   onward : o.one.result.trapped ≡ false
       → Midway (whole before) (first before).args.budget (before.glide.result - 1) Fetch (hart o.one.last.0 o.one.last.1.0)
-      o.one.last.1.1.1.1.0 (map_of (first before).args.pages.now (first before).args.leaves.now)
+      o.one.last.1.1.1.1.0 (first before).args.map.now
   onward q =
       let e = o.one.ensures in
       goes_on _ _ _ _ (glided before) before.glide.last.1.1.1.1.0 _ (midway before) some _ _ _ _ _ e.0 e.1.0 e.1.1.0

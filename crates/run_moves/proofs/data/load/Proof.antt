@@ -1,6 +1,5 @@
 -- `run_moves::data::load` meets its contract: the access of a load. Assumes nothing.
 use mathlib.Core.Path.{sym, ◌∙◌}
-use Rattle.address_page.specs.Lent.{map_of}
 use Rattle.decode_base.specs.Base.{decode_load_of}
 use Rattle.step_transfer.specs.Access.{access_of, passed_of}
 use Rattle.step_meaning.specs.Instruction.{execute_of}
@@ -13,8 +12,8 @@ use Rattle.run_moves.proofs.data.load.Tie as tie
 returns : tie.Need-returns
 returns c =
     let t = c.before.before in
-    let s = t.before.before.before.before in
-    λ ssp rest. c.load-flat.ensures ssp s.args.k.setting rest (map_of s.args.pages.now s.args.leaves.now) (sym s.requires.1 ∙ t.if1.true)
+    let s = t.before.before.before in
+    λ ssp rest. c.load-flat.ensures ssp s.args.k.setting rest s.args.map.now (sym s.requires.1 ∙ t.if1.true)
 
 returns-2 : tie.Need-returns-2
 unfolding execute_of access_of passed_of

@@ -1,6 +1,5 @@
 -- `step::one` meets its contract. Assumes nothing.
 use mathlib.Core.Path.{◌≡◌, sym}
-use Rattle.address_page.specs.Lent.{map_of}
 use Rattle.step_meaning.proofs.Stays.{effect_stays}
 use Rattle.step_effect.proofs.Stays.{fits}
 use Rattle.step_hart.specs.Hart.{hart}
@@ -13,9 +12,9 @@ returns : tie.Need-returns
 unfolding step_from
 returns c =
     let p = c.before.before.before.before.before.before.plan in
-    let st = c.before.before.before.before.before.before.before.before.before.before.before.before.before.before.before in
+    let st = c.before.before.before.before.before.before.before.before.before.before.before.before.before.before in
     let a = st.args in
-    let planned : plan_of a.source (hart a.x.now a.w.now) a.mem.now (map_of a.pages.now a.leaves.now) ≡ p.result = rw (← st.requires.1) (sym p.ensures) in
+    let planned : plan_of a.source (hart a.x.now a.w.now) a.mem.now a.map.now ≡ p.result = rw (← st.requires.1) (sym p.ensures) in
     rw planned c.before.before.apply.ensures
 
 pub one_spec : {M : Type 1} → statement M
