@@ -2,6 +2,7 @@
 // nor memory. The steps in their order, and where they lead, are crate `address_place`.
 //
 // Nothing here knows a hart: `Control` is what a hart's mode and CSRs say about accesses.
+#![tactic(auto)]
 
 // The kind of access that a memory instruction makes.
 pub mod kind;

@@ -1,5 +1,7 @@
 // What a leaf of the page map lets an access do: steps 5 to 8, which are rules 7.5 to 7.8 of docs/HART.md, in their order. Step 5,
 // whether the leaf is a page's, is asked of crate `address_leaf`.
+#![tactic(auto)]
+
 ghost use Rattle.std.specs.Prelude.{◌≡◌};
 ghost use Rattle.isa.specs.declared.Kind.TheVariants.{Fetch};
 ghost use Rattle.address_leaf.specs.Leaf.{leaf_of};

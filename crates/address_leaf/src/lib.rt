@@ -1,5 +1,7 @@
 // A leaf of the page map, and whether it is a page's at all: step 5, which is rule 7.5 of docs/HART.md. The word is taken apart
 // once, into bools. How a leaf is found is the business of crate `address_page`, what it lets an access do that of crate `address_judge`.
+#![tactic(auto)]
+
 ghost use Rattle.std.specs.Prelude.{◌≡◌};
 ghost use Rattle.address_leaf.specs.Leaf.{leaf_of, shadow_page_of, read_only, has_right_of, valid_leaf_of};
 

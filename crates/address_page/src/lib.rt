@@ -2,6 +2,8 @@
 //
 // Lookup of a page number and judgement of a leaf (crate `address_judge`) are kept apart: how an entry is found can change without a
 // word about what it permits.
+#![tactic(auto)]
+
 use isa::Mode;
 
 // What the rules ask of a kind of access.

@@ -1,6 +1,7 @@
 // From address to byte: who may touch what, and where it stands in memory. Steps 1 to 9 are rules 7.1 to 7.9 of docs/HART.md.
 //
 // Nothing here knows a hart: a `Control` of crate `address` is what a hart's mode and CSRs say about accesses.
+#![tactic(auto)]
 
 ghost use Rattle.std.specs.Prelude.{◌≡◌, ◌-◌, ◌≤◌};
 ghost use Rattle.address_place.specs.Place.{base};

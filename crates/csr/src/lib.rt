@@ -1,5 +1,7 @@
 // The rules of single CSRs, on numbers: what a write leaves and a read shows, and which words a CSR can hold. mstatus' own
 // rules stand in crate `csr_status`; who may touch a CSR, and what it switches on, in crate `csr_access`.
+#![tactic(auto)]
+
 pub mod legal;
 mod row;
 pub mod warl;

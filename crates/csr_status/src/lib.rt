@@ -1,5 +1,7 @@
 // mstatus: its fields as a struct and as a word, what a write leaves and a read shows of it, also through sstatus.
 // Modes and their numbers stand here too, since MPP and SPP hold them. What a trap and a return make of it is crate `csr_trap`'s.
+#![tactic(auto)]
+
 pub mod mode;
 pub mod pack;
 pub mod warl;

@@ -1,5 +1,7 @@
 // The hart's words beside the registers: one array, whose words have names, and what needs no more of the hart than them: what a CSR shows and takes,
 // what the mode and CSRs say about an instruction, trap entry, the returns, and refusal 1. The order is that of include/sporhulma.h.
+#![tactic(auto)]
+
 ghost use Rattle.std.specs.Prelude.{◌≡◌, ◌<◌, length};
 ghost use Rattle.csr_words.specs.Words.{COUNT, csr_slot_of, flag_of};
 

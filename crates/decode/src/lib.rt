@@ -1,4 +1,6 @@
 // The reader of instruction words: the major opcodes here, RV64I's words in crate `decode_base`, the others' in the modules below.
+#![tactic(auto)]
+
 ghost use Rattle.std.specs.Prelude.{false, ◌≡◌};
 ghost use Rattle.decode.specs.Decode.{decode_of, is_privileged};
 

@@ -1,5 +1,7 @@
 // RV64I, M, and what is taken from Zbb: one function for each major opcode, by the tables of the manual's chapter of instruction listings.
 // A key is written as the manual prints it: funct7 before funct3.
+#![tactic(auto)]
+
 ghost use Rattle.std.specs.Prelude.{◌≡◌};
 ghost use Rattle.decode_base.specs.Base.{decode_jalr_of, decode_branch_of, decode_load_of, decode_store_of, count_of, count_word_of, shift_of, op_imm_of, word_shift_of, op_imm32_of};
 ghost use Rattle.decode_base.specs.Base.{extension_of, op_of, extension32_of, op32_of, misc_mem_of};

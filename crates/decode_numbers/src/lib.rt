@@ -1,5 +1,7 @@
 // A decoded instruction as eight numbers, one layout for all families: what a host writes by hand, and what is compared to see
 // whether two instructions are the same. What a family does not have is 0.
+#![tactic(auto)]
+
 ghost use Rattle.std.specs.Prelude.{◌≡◌};
 ghost use Rattle.decode_numbers.specs.Numbers.{eight_of, source_of, ordering_bit, access_numbers, numbers_of};
 

@@ -2,6 +2,8 @@
 //
 // The word is packed from the instruction's numbers without a test and then read: it is the answer exactly if it reads as
 // what was to be written. So nothing here says which numbers are in reach: the reader does.
+#![tactic(auto)]
+
 ghost use Rattle.decode_writer.specs.Promise.{Answers, AnswersNumbers};
 
 use decode::decode;

@@ -1,6 +1,8 @@
 // The decoder's verdict as a number, for who compares decoders word by word (include/sporhulma.h).
 //
 // A static library of its own: the compiler puts `decode` into the run's loop only while that is its one caller.
+#![tactic(auto)]
+
 ghost use Rattle.std.specs.Prelude.{◌≡◌};
 ghost use Rattle.decode.specs.Decode.{decode_of};
 ghost use Rattle.family.specs.Family.{access_family, family_of};

@@ -3,6 +3,7 @@
 // The decoded form keeps every field of the word, also those that the hart ignores (FENCE's, a Zimop
 // word's, aq and rl), so that a word can be written back from it. Immediates and offsets are the 64 bits
 // of a signed number. Variants are tuples, and the comment above each names its parts in order.
+#![tactic(auto)]
 
 // How many bytes an access moves.
 pub mod size;

@@ -2,6 +2,8 @@
 //
 // A place in memory is an index here; which address stands for it, and who may use it, is the business
 // of crate `address_place`.
+#![tactic(auto)]
+
 ghost use Rattle.std.specs.Prelude.{◌≡◌, ◌+◌, ◌≤◌, length};
 ghost use Rattle.isa.specs.Size.{size_of};
 ghost use Rattle.memory.specs.Bytes.{load_of, store_of};

@@ -2,6 +2,8 @@
 // undone, and so is what a form does not name: the slow path does it.
 //
 // One match for all: a second one would be a second jump for each instruction (docs/SPEED.md).
+#![tactic(auto)]
+
 ghost use Rattle.std.specs.Prelude.{Bool, true, false, List, ◌≡◌, ℕ, ◌+◌, ◌^◌, ◌<◌, ◌≤◌, length, get_or};
 ghost use Rattle.word.specs.Sum.{sum_of};
 ghost use Rattle.isa.specs.declared.Access.TheVariants as access;

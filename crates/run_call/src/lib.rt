@@ -1,5 +1,7 @@
 // What a public call is: its answer, and refusals 1 to 4. The definitions of the three calls
 // stand in specs/Call.antt. Who makes them is above: `run_machine`, and the boundary for C and Rust.
+#![tactic(auto)]
+
 ghost use Rattle.std.specs.Prelude.{◌≡◌, false, not, ltb};
 ghost use Rattle.word.specs.Choice.{pick};
 ghost use Rattle.step_hart.specs.Hart.{hart};

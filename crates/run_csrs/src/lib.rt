@@ -3,6 +3,8 @@
 // trap's cost. Any other word is left undone and changes nothing: it takes the slow path, by `step_execute::plan`.
 //
 // Its own crate, since it is a second way to the same effects: the definitions are those of `step_meaning` and `csr_words`, and nothing here adds to them.
+#![tactic(auto)]
+
 ghost use Rattle.std.specs.Prelude.{Bool, List, ◌≡◌, ℕ, ◌<◌};
 ghost use Rattle.word.specs.Choice.{pick};
 ghost use Rattle.word.specs.Field.{bits};

@@ -3,6 +3,8 @@
 // into a frame that a word was taken from empties the entries of its own words.
 //
 // The memo and the remembered pages are locals of `steps`, which has one setting: where that changes it has ended, and what was remembered is gone.
+#![tactic(auto)]
+
 ghost use Rattle.std.specs.Prelude.{true, false, List, ◌≡◌, ℕ, ◌+◌, ◌/◌, ◌%◌, ◌^◌, ◌<◌, ◌≤◌, length, get_or};
 ghost use Rattle.word.specs.Choice.{pick};
 ghost use Rattle.word.specs.Sum.{sum_of};

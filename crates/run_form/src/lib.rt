@@ -3,6 +3,8 @@
 //
 // OP-IMM and OP are one: the second operand is the second register's value and the number together, of which one is 0. LUI and AUIPC are sums
 // likewise. A jump's and a branch's number is its target.
+#![tactic(auto)]
+
 ghost use Rattle.std.specs.Prelude.{◌≡◌, ℕ, ◌<◌, ◌⊎◌};
 ghost use Rattle.isa.specs.declared.Access.TheVariants as access;
 ghost use Rattle.isa.specs.declared.Instruction.TheVariants as instruction;

@@ -1,5 +1,7 @@
 // The quick way through a run: common instructions in place, one after the other, up to one that has to take the slow path. The loop is small
 // enough for the compiler to keep pc and the count in registers.
+#![tactic(auto)]
+
 ghost use Rattle.std.specs.Prelude.{false, ◌≡◌, ◌^◌, ◌≤◌, length};
 ghost use Rattle.address_place.specs.Window.{Shows};
 ghost use Rattle.step_meaning.specs.Context.{Knows};

@@ -2,6 +2,8 @@
 //
 // Anything may be handed in: each call takes it, or answers with refusal 1 to 4 and changes nothing. The promises are stated in
 // crates/run_call/specs/Call.antt.
+#![tactic(auto)]
+
 ghost use Rattle.std.specs.Prelude.{◌≡◌};
 ghost use Rattle.run_call.specs.Call.{step_from_call, step_call_of, step_word_call, run_call_of};
 

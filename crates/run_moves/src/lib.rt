@@ -1,4 +1,6 @@
 // How an instruction ends on the quick way (crate `run_quick`): done, or left undone; and the instructions that move words between registers and memory.
+#![tactic(auto)]
+
 ghost use Rattle.std.specs.Prelude.{true, false, ◌≡◌};
 ghost use Rattle.step_effect.specs.Register.{put_of};
 

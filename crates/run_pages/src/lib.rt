@@ -3,6 +3,8 @@
 //
 // A pair of words for a page: its first address, and the index of its first byte. The first 64 pairs are for loads, then stores, pushes and
 // pop-checks, 64 each, by the page's number. An empty pair has 8 for an address, which is no address of a page, nor near one as the test below asks.
+#![tactic(auto)]
+
 ghost use Rattle.std.specs.Prelude.{true, false, ◌≡◌, ◌+◌, ◌/◌, ◌^◌, ◌<◌, ◌≤◌, length};
 ghost use Rattle.address_place.specs.Place.{base, place_of};
 ghost use Rattle.address_place.specs.declared.Place.TheVariants.{At};

@@ -1,6 +1,8 @@
 // What the words of OP, OP-IMM and their word forms write, from the values of their operands: the decoder's rows, and what each of them
 // computes, in one match. A match on what another match gave is a second jump, unless the compiler joins the two; it did while
 // there were ten operations, and does not with twenty-five (docs/SPEED.md).
+#![tactic(auto)]
+
 ghost use Rattle.std.specs.Prelude.{true, false, ◌≡◌, ℕ};
 ghost use Rattle.decode_base.specs.Base.{count_of, shift_of, op_imm_of, count_word_of, word_shift_of, op_imm32_of, op_of, op32_of, extension_of, extension32_of};
 ghost use Rattle.run_value.specs.Value.{Writes};

@@ -1,6 +1,8 @@
 // The boundary for C and Rust: an instruction as eight numbers, read from a word and written to one (include/sporhulma.h).
 //
 // A static library of its own: the compiler puts `decode` into the run's loop only while that is its one caller.
+#![tactic(auto)]
+
 ghost use Rattle.std.specs.Prelude.{◌≡◌, length};
 ghost use Rattle.scribe.specs.Words.{eight_at};
 ghost use Rattle.scribe.specs.Boundary.{read_result, read_left, Wrote};

@@ -11,8 +11,8 @@ use Rattle.step_hart.specs.Hart.{hart}
 use Rattle.step_hart.specs.Run.{Run, once, run_of}
 use Rattle.step_hart.specs.Step.{step_from}
 use Rattle.run_call.specs.Call.{called_of, refusal_of, run_refusal_of, step_from_call, run_call_of}
-use Rattle.hex.specs.Load.{load_hex_of}
-use Rattle.hex.proofs.Kept.{refused_changes_nothing}
+use Rattle.intel_hex.specs.Load.{load_hex_of}
+use Rattle.intel_hex.proofs.Kept.{refused_changes_nothing}
 use Rattle.sporhulma.specs.Load.{load_left}
 use Rattle.sporhulma.specs.Boundary.{Left, left_by, step_left_of, step_word_left, run_left}
 

@@ -1,6 +1,6 @@
 -- The load for C: what it leaves, in every word and byte, through the definition of crate `hex`. Rule 11.20 of docs/HART.md.
 use Rattle.std.specs.Prelude.{List, [], ◌∷◌, ℕ}
-use Rattle.hex.specs.Load.{HexCalled, load_hex_of}
+use Rattle.intel_hex.specs.Load.{HexCalled, load_hex_of}
 
 -- what a load leaves: its result, the three words of its answer (line, 1 if a start address was given, the start address), and memory
 pub record LoadLeft : Type 0 where

@@ -3,6 +3,8 @@
 //
 // A hart is the words x and rest. Anything may be handed in; what a call leaves of every word and byte is stated in
 // specs/Boundary.antt, and what a load leaves in specs/Load.antt.
+#![tactic(auto)]
+
 ghost use Rattle.std.specs.Prelude.{◌≡◌, [], ◌∷◌};
 ghost use Rattle.sporhulma.specs.Boundary.{step_left_of, step_word_left, run_left, left_from};
 ghost use Rattle.sporhulma.specs.Load.{load_left};
@@ -113,7 +115,7 @@ pub extern "C" fn sporhulma_load_hex(mem: &mut [u8], text: &[u8], answer: &mut [
     ensures memory { mem.new ≡ (load_left text.now mem.old).memory }
     ensures answer { answer.new ≡ (load_left text.now mem.old).answer }
 {
-    let r = hex::load(text, mem);
+    let r = intel_hex::load(text, mem);
     *answer = [r.line, r.given, r.start];
     r.refusal
 }

@@ -1,6 +1,8 @@
 // What an instruction changes: a small value, the effect, which the hart applies; and what each family of instructions but loads, stores and the
 // shadow stack's (crate `step_transfer`) does, from its operands' values. Nothing here knows a hart, and nothing here changes anything but
 // `register::put`, which writes a lent array.
+#![tactic(auto)]
+
 use address_place::Physical;
 use csr::Csr;
 use isa::{CsrOperation, Width};

@@ -1,5 +1,6 @@
 // The effect of one instruction, and of a step up to it: the fetch, the landing pad check, decoding. Nothing here knows a hart, and
 // nothing here changes anything.
+#![tactic(auto)]
 
 // One instruction.
 mod instruction;

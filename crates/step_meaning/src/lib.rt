@@ -1,5 +1,6 @@
 // What a step's instruction does, as definitions and their laws: no function stands here. The ways to it stand above, the slow path
 // (`step_execute`), the quick way (`run_quick`, `run_csrs`) and the fast path (`run_form`), and none has to wait for another to be proved.
+#![tactic(auto)]
 
 use csr_setting::Setting;
 

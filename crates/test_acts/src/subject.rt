@@ -16,13 +16,13 @@ pub fn came(letter: u8, given: &[u64], got: &mut [u64; MOST]) -> usize
     ensures { result ≤ most }
 {
     match letter {
-        b'_d' => test_decoded::run(given, got),
-        b'_m' => mask::run(given, got),
-        b'_p' => places::run(given, got),
-        b'_b' => bytes::run(given, got),
-        b'_r' => refused::run(given, got),
-        b'_x' => test_hexed::run(given, got),
-        b'_h' => operation::run(given, got),
+        b'D' => test_decoded::run(given, got),
+        b'M' => mask::run(given, got),
+        b'P' => places::run(given, got),
+        b'B' => bytes::run(given, got),
+        b'R' => refused::run(given, got),
+        b'X' => test_hexed::run(given, got),
+        b'H' => operation::run(given, got),
         _ => 0,
     }
 }
@@ -30,7 +30,7 @@ pub fn came(letter: u8, given: &[u64], got: &mut [u64; MOST]) -> usize
 // Whether a line has as many wanted numbers as are compared. A call has pairs for memory among them, and two numbers of its own
 // are compared.
 fn fits(letter: u8, compared: usize, wanted: usize) -> bool {
-    if letter == b'_c' {
+    if letter == b'C' {
         return compared <= 58 && wanted >= 56;
     }
     compared == wanted
@@ -42,7 +42,7 @@ fn held(letter: u8, c: Counts, s: &[u8], at: Line, wanted: &[u64], got: &[u64]) 
     ensures { result.cases ≡ one_more_of c.cases }
 {
     match letter {
-        b'_c' => report::compared(
+        b'C' => report::compared(
             c,
             s,
             at,
@@ -52,7 +52,7 @@ fn held(letter: u8, c: Counts, s: &[u8], at: Line, wanted: &[u64], got: &[u64]) 
             wanted,
             got,
         ),
-        b'_h' => report::compared(
+        b'H' => report::compared(
             c,
             s,
             at,

@@ -3,6 +3,8 @@
 //
 // What the given numbers are says crate `test_scene`. The wanted ones are refusal, count, whether it trapped, cause, the hart, and
 // pairs for what has changed in memory.
+#![tactic(auto)]
+
 ghost use Rattle.std.specs.Prelude.{◌≡◌, ◌≤◌, length};
 ghost use Rattle.test_lines.specs.Most.{most};
 

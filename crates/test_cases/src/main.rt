@@ -2,6 +2,8 @@
 //
 // A file of another kind of case gets a line in `main`, with a letter, which gets an arm in `test_acts::subject`, and a module with a
 // `run` of its own (crates `test_rules`, `test_hexed` and `test_acts`).
+#![tactic(auto)]
+
 ghost use Rattle.std.specs.Prelude.{◌≤◌, length};
 ghost use Rattle.test_lines.specs.Most.{most};
 
@@ -22,7 +24,7 @@ fn came(
 ) -> usize
     ensures { result ≤ most }
 {
-    if letter == b'_c' {
+    if letter == b'C' {
         return test_calls::run(given, right, wanted, got);
     }
     subject::came(letter, given, got)

@@ -1,5 +1,7 @@
 // The decode cases: one given number, a word, and nine wanted ones: the eight of the instruction that it is read as, and the word that
 // writing these gives, 0 where they are refused; vectors/decode.py writes the same numbers.
+#![tactic(auto)]
+
 ghost use Rattle.std.specs.Prelude.{◌≤◌};
 
 use decode::decode;

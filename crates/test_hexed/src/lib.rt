@@ -3,6 +3,8 @@
 // The given numbers are how many bytes memory has, how many the text has, and the text's bytes, eight to a number, the first lowest. The
 // wanted ones are the answer (refusal, line, 1 where a start address was given, the start address) and, for each byte of memory that is
 // another afterwards, 256 times its place and the byte, in rising order.
+#![tactic(auto)]
+
 ghost use Rattle.std.specs.Prelude.{◌≡◌, ◌≤◌, length};
 ghost use Rattle.test_lines.specs.Most.{most};
 
@@ -69,7 +71,7 @@ fn changed(mem: &[u8], got: &mut [u64; MOST]) -> usize
 fn loaded(text: &[u8], mem: &mut [u8]) -> Came
     ensures { result.count ≤ most }
 {
-    let a = hex::load(text, &mut *mem);
+    let a = intel_hex::load(text, &mut *mem);
     let mut numbers = [0u64; MOST];
     row::put(&mut numbers, 0, a.refusal);
     row::put(&mut numbers, 1, a.line);

@@ -1,5 +1,7 @@
 // Runs three loops of 4,000,000 instructions each, in chained runs of at most 1,000,000 steps, and prints of each whether it
 // ended with the numbers that its file works out.
+#![tactic(auto)]
+
 use step_hart::Hart;
 use test_lines::line::MOST;
 use test_loops::{calls, chain, doubles, registers};

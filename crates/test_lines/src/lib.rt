@@ -1,5 +1,6 @@
 // Files of cases, a line at a time: what a line says, and what is printed of it. Nothing here knows what a
 // case is about: a program hands over the numbers that its code gave.
+#![tactic(auto)]
 
 // A file.
 pub mod file;

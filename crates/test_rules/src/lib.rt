@@ -2,6 +2,7 @@
 //
 // Each kind of case is a module with a function `run`: it is lent the given numbers of a line, puts what came of them into a row
 // of zeros, and answers how many numbers these are, 0 where the given numbers are not those of such a case.
+#![tactic(auto)]
 
 // Loads and stores.
 pub mod bytes;

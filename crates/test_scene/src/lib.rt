@@ -4,6 +4,8 @@
 // The given numbers are: the call (0 step, 1 step of a given word, 2 run), its argument (the word, the budget, or 0), the length
 // of memory, the hart (52 numbers), the map's entries that are made (how many, the first page, the first leaf), how many words
 // of the map follow, those words, and the pairs of memory's content (module `content`).
+#![tactic(auto)]
+
 ghost use Rattle.std.specs.Prelude.{◌≡◌, ◌/◌, ◌≤◌, length};
 ghost use Rattle.test_lines.specs.Most.{most};
 

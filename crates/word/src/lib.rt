@@ -1,5 +1,6 @@
 // The arithmetic of words that instructions need: the fields of an instruction word, its immediates,
 // sums, order, shifts and logic on 64 and 32 bits. Nothing here knows an instruction.
+#![tactic(auto)]
 
 // Tests put together, and a choice between an old and a new value.
 pub mod choice;
