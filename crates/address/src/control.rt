@@ -9,7 +9,7 @@ use isa::{Kind, Mode};
 
 // What a hart's mode and CSRs say about accesses: sv39 is satp.MODE 8, sse is menvcfg.SSE, and the last three
 // are the PMMs of senvcfg, menvcfg and mseccfg.
-#[derive(Drop)]
+#[derive(Clone, Copy)]
 pub struct Control {
     pub mode: Mode,
     pub mprv: bool,

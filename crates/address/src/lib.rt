@@ -18,5 +18,5 @@ pub mod stack;
 pub mod cause;
 
 // An address as the program names it. A `Physical` of crate `address_place` is made from one by translation alone.
-#[derive(Drop)]
+#[derive(Clone, Copy)]
 pub struct Virtual(pub u64);

@@ -15,7 +15,7 @@ use isa::{Kind, Mode};
 // The usual grant, by a few bits of the leaf's word.
 mod usual;
 
-#[derive(Drop)]
+#[derive(Clone, Copy)]
 pub enum Verdict {
     Granted,
     PageFault,

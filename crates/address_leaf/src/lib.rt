@@ -6,7 +6,7 @@ ghost use Rattle.std.specs.Prelude.{◌≡◌};
 ghost use Rattle.address_leaf.specs.Leaf.{leaf_of, shadow_page_of, read_only, has_right_of, valid_leaf_of};
 
 // An Sv39 leaf: its bits, and whether bits 63:54 are 0.
-#[derive(Drop)]
+#[derive(Clone, Copy)]
 pub struct Leaf {
     pub v: bool,
     pub r: bool,

@@ -12,7 +12,7 @@ pub mod kinds;
 pub mod map;
 
 // What a leaf is judged by, beside the kind of access: the effective mode, SUM, MXR and menvcfg.SSE.
-#[derive(Drop)]
+#[derive(Clone, Copy)]
 pub struct Regime {
     pub mode: Mode,
     pub sum: bool,

@@ -2,7 +2,7 @@
 ghost use Rattle.std.specs.Prelude.{◌≡◌};
 ghost use Rattle.address_page.specs.Map.{lookup_of, map_refused_of};
 
-#[derive(Drop)]
+#[derive(Clone, Copy)]
 pub enum Found {
     Leaf(u64),
     Absent,

@@ -15,7 +15,7 @@ pub mod window;
 const BASE: u64 = 0x8000_0000;
 
 // An address of memory, whose first byte has 0x80000000. No other crate can make one.
-#[derive(Drop)]
+#[derive(Clone, Copy)]
 pub struct Physical(u64);
 
 impl Physical {
@@ -36,7 +36,7 @@ impl Physical {
 }
 
 // Where an access goes, or why it does not: cause and tval.
-#[derive(Drop)]
+#[derive(Clone, Copy)]
 pub enum Place {
     At(Physical),
     Fault(u8, u64),

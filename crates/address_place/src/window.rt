@@ -11,7 +11,7 @@ use address::{Virtual, control};
 use word::sum;
 
 // The addresses from `low` on, `span` of them. The first of them stands at index `at` of memory.
-#[derive(Drop)]
+#[derive(Clone, Copy)]
 pub struct Window {
     pub low: u64,
     pub span: u64,

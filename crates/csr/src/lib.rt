@@ -7,7 +7,7 @@ mod row;
 pub mod warl;
 
 // The CSRs of docs/HART.md, 5.1, in its order.
-#[derive(Drop)]
+#[derive(Clone, Copy)]
 pub enum Csr {
     Ssp,
     Sstatus,

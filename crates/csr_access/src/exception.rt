@@ -4,7 +4,7 @@ ghost use Rattle.csr_access.specs.Exception.{illegal_of, breakpoint_of, ecall_of
 
 use isa::Mode;
 
-#[derive(Drop)]
+#[derive(Clone, Copy)]
 pub struct Exception {
     pub cause: u8,
     pub tval: u64,

@@ -7,7 +7,7 @@ use csr::Csr;
 use csr_status::mode;
 use isa::Mode;
 
-#[derive(Drop)]
+#[derive(Clone, Copy)]
 pub enum Reached {
     To(Csr),
     Illegal,

@@ -15,7 +15,7 @@ use csr_trap::returns;
 
 // What a hart's mode and CSRs say about an instruction, beside its accesses: the active shadow enable, whether ssp
 // may be touched as a CSR (and the swap is legal), and the pad enable.
-#[derive(Drop)]
+#[derive(Clone, Copy)]
 pub struct Setting {
     pub control: Control,
     pub shadow: bool,

@@ -6,7 +6,7 @@ pub mod mode;
 pub mod pack;
 pub mod warl;
 
-#[derive(Drop)]
+#[derive(Clone, Copy)]
 pub struct Status {
     pub sie: bool,
     pub mie: bool,

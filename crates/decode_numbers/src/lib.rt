@@ -10,7 +10,7 @@ use isa::{Access, CsrSource, Instruction};
 // The numbers of operations.
 mod key;
 
-#[derive(Drop)]
+#[derive(Clone, Copy)]
 pub struct Eight {
     pub family: u64,
     pub operation: u64,

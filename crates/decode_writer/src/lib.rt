@@ -17,7 +17,7 @@ mod pack;
 // Whether eight numbers are the same eight.
 mod same;
 
-#[derive(Drop)]
+#[derive(Clone, Copy)]
 pub enum Written {
     Word(u32),
     // number 5

@@ -16,7 +16,7 @@ mod verdict;
 mod store;
 
 // refusal is 0, 2 or 6; line is the first bad line of refusal 6, else 0; given is 1 if a start address was given, else 0.
-#[derive(Drop)]
+#[derive(Clone, Copy)]
 pub struct Loaded {
     pub refusal: u64,
     pub line: u64,

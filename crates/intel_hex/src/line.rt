@@ -7,7 +7,7 @@ ghost use Rattle.intel_hex.specs.Inner.{IsTable, line_sum_of};
 use super::pair;
 
 // given is 1 if there is a start address, else 0, and then address is 0.
-#[derive(Drop)]
+#[derive(Clone, Copy)]
 pub struct Start {
     pub given: u64,
     pub address: u64,

@@ -5,7 +5,7 @@ ghost use Rattle.intel_hex.specs.Inner.{IsTable, Judged, Ends, LineRead};
 use super::pair;
 
 // The sum of a line modulo 256; 256 where it is none that is as long as its count says. Else the line goes up to stop, and the next starts at next.
-#[derive(Drop)]
+#[derive(Clone, Copy)]
 pub struct Scan {
     pub sum: u64,
     pub stop: usize,

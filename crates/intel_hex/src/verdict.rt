@@ -8,7 +8,7 @@ use super::line::Start;
 use super::{line, pair, scan};
 
 // The first bad line, 0 if none is, and then the start address.
-#[derive(Drop)]
+#[derive(Clone, Copy)]
 pub struct Verdict {
     pub line: u64,
     pub start: Start,

@@ -9,7 +9,7 @@
 pub mod size;
 
 // How many bytes an access moves: 1, 2, 4 or 8.
-#[derive(Drop)]
+#[derive(Clone, Copy)]
 pub enum Width {
     Byte,
     Half,
@@ -18,7 +18,7 @@ pub enum Width {
 }
 
 // What a memory instruction does at its address.
-#[derive(Drop)]
+#[derive(Clone, Copy)]
 pub enum Access {
     // width, whether the sign is extended
     Load(Width, bool),
@@ -31,7 +31,7 @@ pub enum Access {
 }
 
 // What an access is for, as the rules of translation tell them apart.
-#[derive(Drop)]
+#[derive(Clone, Copy)]
 pub enum Kind {
     Fetch,
     Load,
@@ -42,7 +42,7 @@ pub enum Kind {
 }
 
 // The privilege modes.
-#[derive(Drop)]
+#[derive(Clone, Copy)]
 pub enum Mode {
     User,
     Supervisor,
@@ -50,7 +50,7 @@ pub enum Mode {
 }
 
 // When a branch is taken.
-#[derive(Drop)]
+#[derive(Clone, Copy)]
 pub enum Condition {
     Equal,
     NotEqual,
@@ -61,7 +61,7 @@ pub enum Condition {
 }
 
 // What OP and OP-IMM compute.
-#[derive(Drop)]
+#[derive(Clone, Copy)]
 pub enum Operation {
     Add,
     Sub,
@@ -94,7 +94,7 @@ pub enum Operation {
 }
 
 // What OP-32 and OP-IMM-32 compute.
-#[derive(Drop)]
+#[derive(Clone, Copy)]
 pub enum WordOperation {
     Addw,
     Subw,
@@ -112,7 +112,7 @@ pub enum WordOperation {
 }
 
 // What a CSR instruction does with the CSR.
-#[derive(Drop)]
+#[derive(Clone, Copy)]
 pub enum CsrOperation {
     Write,
     Set,
@@ -120,13 +120,13 @@ pub enum CsrOperation {
 }
 
 // Where a CSR instruction takes its operand from: a register's number, or the number itself.
-#[derive(Drop)]
+#[derive(Clone, Copy)]
 pub enum CsrSource {
     Register(u8),
     Immediate(u8),
 }
 
-#[derive(Drop)]
+#[derive(Clone, Copy)]
 pub enum Instruction {
     Illegal,
     // rd, immediate

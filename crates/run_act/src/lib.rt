@@ -32,7 +32,7 @@ use step_effect::jump;
 use word::{logic, order, shift, sum};
 
 // Whether a form was carried out, and then pc after it; and where it stored, if it did: the index of the first byte, and 1 more.
-#[derive(Drop)]
+#[derive(Clone, Copy)]
 pub struct Acted {
     pub done: bool,
     pub pc: u64,

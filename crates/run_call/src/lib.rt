@@ -13,7 +13,7 @@ use step_hart::{Hart, legal};
 
 // What a call answers. refusal is 0 where the call was taken, else the refusal's number (docs/HART.md, 2.3 to 2.7), and then the hart is
 // the one handed in and count is 0. cause is the last trap's, and 0 where there was none.
-#[derive(Drop)]
+#[derive(Clone, Copy)]
 pub struct Answer {
     pub refusal: u64,
     pub hart: Hart,

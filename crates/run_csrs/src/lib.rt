@@ -26,7 +26,7 @@ use word::field;
 
 // Where the word of an address stands, if it is one of the eight and the mode reaches it. A number and not a `Csr`, which would cost a jump for
 // each of what is asked of it.
-#[derive(Drop)]
+#[derive(Clone, Copy)]
 enum Found {
     At(usize),
     Nowhere,

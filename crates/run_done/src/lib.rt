@@ -3,7 +3,7 @@
 #![tactic(auto)]
 
 // Whether an instruction was done, and then pc after it.
-#[derive(Drop)]
+#[derive(Clone, Copy)]
 pub struct Tried {
     pub done: bool,
     pub pc: u64,

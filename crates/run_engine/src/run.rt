@@ -14,7 +14,7 @@ use step_hart::{Hart, step};
 use step_meaning::{Context, Source};
 
 // What a run tells beside the words: the steps taken, the trapping one included, and the last trap's cause if there was one (else 0).
-#[derive(Drop)]
+#[derive(Clone, Copy)]
 pub struct Told {
     pub count: u64,
     pub trapped: bool,
@@ -172,7 +172,7 @@ pub fn run(
 }
 
 // What a run of a hart by value hands back.
-#[derive(Drop)]
+#[derive(Clone, Copy)]
 pub struct Ran {
     pub hart: Hart,
     pub count: u64,

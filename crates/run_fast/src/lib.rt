@@ -46,7 +46,7 @@ const BYTES: usize = 16640;
 const EMPTY: u64 = 0x0101_0101_0101_0101;
 
 // What stands at an address, if a fetch there has a place: the index of the word, and its form.
-#[derive(Drop)]
+#[derive(Clone, Copy)]
 pub struct Known {
     pub there: bool,
     pub at: usize,

@@ -17,7 +17,7 @@ use isa::{Access, Condition, Instruction, Operation, Width, WordOperation};
 use step_effect::jump;
 use word::sum;
 
-#[derive(Drop)]
+#[derive(Clone, Copy)]
 pub enum Op {
     Add,
     Sub,
@@ -83,7 +83,7 @@ pub enum Op {
     Left,
 }
 
-#[derive(Drop)]
+#[derive(Clone, Copy)]
 pub struct Form {
     pub op: Op,
     pub rd: u8,

@@ -19,7 +19,7 @@ use isa::{Kind, Width, size};
 pub const COUNT: usize = 512;
 
 // The index of an access's first byte, if it has a place.
-#[derive(Drop)]
+#[derive(Clone, Copy)]
 pub struct Sought {
     pub found: bool,
     pub at: usize,

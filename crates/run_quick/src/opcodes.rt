@@ -20,7 +20,7 @@ use step_meaning::Context;
 use word::sum;
 
 // The word at pc, if the window covers it.
-#[derive(Drop)]
+#[derive(Clone, Copy)]
 pub struct Seen {
     pub seen: bool,
     pub word: u32,

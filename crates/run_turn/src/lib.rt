@@ -3,7 +3,7 @@
 #![tactic(auto)]
 
 // pc after the steps taken, and what is left of the budget.
-#[derive(Drop)]
+#[derive(Clone, Copy)]
 pub struct Glided {
     pub pc: u64,
     pub left: u64,

@@ -13,7 +13,7 @@ use word::field::Fields;
 use word::{logic, order, shift, sum};
 
 // The value that a word writes, or that its table has no such row.
-#[derive(Drop)]
+#[derive(Clone, Copy)]
 pub struct Value {
     pub known: bool,
     pub value: u64,

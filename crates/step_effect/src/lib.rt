@@ -22,7 +22,7 @@ pub mod system;
 //
 // A cause is a u8, here as in `Place` and `Fetched`: as a u64 it would put a fault's tval at another offset than a place's one u64, LLVM would
 // join the stores of two arms into one through a chosen pointer, and the enum would live in memory and not in registers.
-#[derive(Drop)]
+#[derive(Clone, Copy)]
 pub enum Effect {
     // rd, value, next
     Write(u8, u64, u64),
@@ -44,7 +44,7 @@ pub enum Effect {
 }
 
 // What changes more of a hart than registers, pc, ELP and ssp.
-#[derive(Drop)]
+#[derive(Clone, Copy)]
 pub enum Privileged {
     // operation, CSR, whether it writes, operand, rd, next
     Csr(CsrOperation, Csr, bool, u64, u8, u64),

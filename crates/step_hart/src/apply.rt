@@ -12,7 +12,7 @@ use isa::{CsrOperation, Width};
 use step_effect::{Effect, Privileged, csrs, register};
 
 // What a step tells: the trap's cause if it trapped (else 0), and whether what the mode and CSRs say may have changed.
-#[derive(Drop)]
+#[derive(Clone, Copy)]
 pub struct Done {
     pub trapped: bool,
     pub cause: u64,

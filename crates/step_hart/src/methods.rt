@@ -12,7 +12,7 @@ use csr_words::{COUNT, MODE, MSTATUS, returns, setting, trap, warl};
 use step_meaning::Source;
 
 // What a step hands back: the hart after it, and the trap's cause if it trapped (0 where it did not).
-#[derive(Drop)]
+#[derive(Clone, Copy)]
 pub struct Stepped {
     pub hart: Hart,
     pub trapped: bool,

@@ -7,21 +7,21 @@ use csr_setting::Setting;
 // What is known beforehand about a stretch of steps: what the mode and CSRs say, and whether loads and stores are neither masked nor translated. The
 // run's way passes it on by value, so that what else is remembered is a field more; no definition of a step speaks of it. The window of fetches
 // stands apart: as a field it cost 12 machine instructions a step (docs/SPEED.md).
-#[derive(Drop)]
+#[derive(Clone, Copy)]
 pub struct Context {
     pub setting: Setting,
     pub flat: bool,
 }
 
 // Where a step takes its word from: it fetches at pc, or a word is given as if it had been fetched there.
-#[derive(Drop)]
+#[derive(Clone, Copy)]
 pub enum Source {
     Fetch,
     Given(u32),
 }
 
 // A word, or why there is none: cause and tval.
-#[derive(Drop)]
+#[derive(Clone, Copy)]
 pub enum Fetched {
     Word(u32),
     Fault(u8, u64),

@@ -14,7 +14,7 @@ use step_effect::{Effect, system};
 use word::sum;
 
 // Whether an instruction makes its access, is a Zimop word that is off, or is illegal.
-#[derive(Drop)]
+#[derive(Clone, Copy)]
 pub enum Gate {
     Open,
     Off,

@@ -22,7 +22,7 @@ use test_rules::places;
 const GIVEN: usize = 55;
 
 // What came of an operation: whether it is illegal or refused, a value, and the hart.
-#[derive(Drop)]
+#[derive(Clone, Copy)]
 struct Came {
     no: bool,
     value: u64,

@@ -59,7 +59,7 @@ fn executed(n: &[u64], mem: &mut [u8]) -> Answer {
 }
 
 // What came of a call: whether memory could be filled, the answer, and where memory is wrong after it.
-#[derive(Drop)]
+#[derive(Clone, Copy)]
 struct Ran {
     ok: bool,
     answer: Answer,

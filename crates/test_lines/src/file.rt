@@ -2,7 +2,7 @@
 ghost use Rattle.std.specs.Prelude.{◌≤◌, length};
 
 // How reading a file ended.
-#[derive(Drop)]
+#[derive(Clone, Copy)]
 pub enum End {
     Privileged,
     NotOpened,
@@ -11,7 +11,7 @@ pub enum End {
 }
 
 // How many bytes of a file were read, and how that ended.
-#[derive(Drop)]
+#[derive(Clone, Copy)]
 pub struct Taken {
     pub count: usize,
     pub end: End,

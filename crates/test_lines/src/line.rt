@@ -11,7 +11,7 @@ ghost use Rattle.test_lines.specs.Most.{most};
 pub const MOST: usize = 192;
 
 // What can be wrong with a line.
-#[derive(Drop)]
+#[derive(Clone, Copy)]
 pub enum Fault {
     Nothing,
     Numbers,
@@ -21,7 +21,7 @@ pub enum Fault {
 
 // The given numbers are the first `given` that were read, the wanted ones follow up to `count`. `=`
 // stands at `equals`, and the text starts at `text`.
-#[derive(Drop)]
+#[derive(Clone, Copy)]
 pub struct Line {
     pub fault: Fault,
     pub given: usize,
@@ -32,11 +32,11 @@ pub struct Line {
 
 // A number: its value, where what follows it starts, and whether it fits 64 bits. Where what follows
 // starts where the number was to start, there is none.
-#[derive(Drop)]
+#[derive(Clone, Copy)]
 struct Value(u64, usize, bool);
 
 // Numbers: how many there are now, where what follows them starts, and whether they fit.
-#[derive(Drop)]
+#[derive(Clone, Copy)]
 struct Run(usize, usize, bool);
 
 // The value of a digit; 16 for any other byte.

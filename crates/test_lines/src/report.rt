@@ -8,7 +8,7 @@ use super::line::{Fault, Line};
 use super::row;
 use libc::STDOUT_FILENO;
 
-#[derive(Drop)]
+#[derive(Clone, Copy)]
 pub struct Counts {
     pub cases: u64,
     pub failed: u64,

@@ -15,7 +15,7 @@ const BUDGET: u64 = 1_000_000;
 const MOST_RUNS: u64 = 8;
 
 // How a lap ended: the hart, the steps of all runs together, the runs, and the last one's trap.
-#[derive(Drop)]
+#[derive(Clone, Copy)]
 pub struct Ran {
     pub hart: Hart,
     pub steps: u64,

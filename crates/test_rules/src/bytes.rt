@@ -17,7 +17,7 @@ const FIRST: usize = 6;
 const ROOM: usize = 64;
 
 // What a load gave, 0 where there is none, and whether there is none or it fits.
-#[derive(Drop)]
+#[derive(Clone, Copy)]
 struct Value(u64, bool);
 
 // Puts numbers into a memory. Whether each is a byte, and there is room for it.

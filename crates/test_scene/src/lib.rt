@@ -29,7 +29,7 @@ const ROOM: u64 = 1_052_672;
 const NOWHERE: u64 = 0xffff_ffff_ffff_ffff;
 
 // Where memory is not as it is to be, what is there and what is to be there.
-#[derive(Drop)]
+#[derive(Clone, Copy)]
 pub struct Difference {
     pub offset: u64,
     pub found: u64,

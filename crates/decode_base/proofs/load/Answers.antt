@@ -1,28 +1,36 @@
 -- `decode_base::load` meets its contract: the rows of `loads`. Assumes nothing.
 use Rattle.word.proofs.Tables.{missed}
-use Rattle.decode_base.specs.Base.{loads}
+use Rattle.decode_base.specs.Base.{decode_load_of, loads}
 use Rattle.decode_base.proofs.load.Goals as goal
 
 pub returns-in-0 : goal.returns-in-0
+unfolding decode_load_of
 returns-in-0 c = rw c.in-0.is
 
 pub returns-in-1 : goal.returns-in-1
+unfolding decode_load_of
 returns-in-1 c = rw c.in-1.is
 
 pub returns-in-2 : goal.returns-in-2
+unfolding decode_load_of
 returns-in-2 c = rw c.in-2.is
 
 pub returns-in-3 : goal.returns-in-3
+unfolding decode_load_of
 returns-in-3 c = rw c.in-3.is
 
 pub returns-in-4 : goal.returns-in-4
+unfolding decode_load_of
 returns-in-4 c = rw c.in-4.is
 
 pub returns-in-5 : goal.returns-in-5
+unfolding decode_load_of
 returns-in-5 c = rw c.in-5.is
 
 pub returns-in-6 : goal.returns-in-6
+unfolding decode_load_of
 returns-in-6 c = rw c.in-6.is
 
 pub returns-in_default : goal.returns-in_default
-returns-in_default c = missed _ (loads c.args.f c.args.offset) c.in_default.rest
+unfolding decode_load_of
+returns-in_default c = missed _ (loads c.args.f c.args.offset) c.in_default.in_default-own.rest

@@ -1,19 +1,24 @@
 -- `decode_base::store` meets its contract: the rows of `stores`. Assumes nothing.
 use Rattle.word.proofs.Tables.{missed}
-use Rattle.decode_base.specs.Base.{stores}
+use Rattle.decode_base.specs.Base.{decode_store_of, stores}
 use Rattle.decode_base.proofs.store.Goals as goal
 
 pub returns-in-0 : goal.returns-in-0
+unfolding decode_store_of
 returns-in-0 c = rw c.in-0.is
 
 pub returns-in-1 : goal.returns-in-1
+unfolding decode_store_of
 returns-in-1 c = rw c.in-1.is
 
 pub returns-in-2 : goal.returns-in-2
+unfolding decode_store_of
 returns-in-2 c = rw c.in-2.is
 
 pub returns-in-3 : goal.returns-in-3
+unfolding decode_store_of
 returns-in-3 c = rw c.in-3.is
 
 pub returns-in_default : goal.returns-in_default
-returns-in_default c = missed _ (stores c.args.f c.args.offset) c.in_default.rest
+unfolding decode_store_of
+returns-in_default c = missed _ (stores c.args.f c.args.offset) c.in_default.in_default-own.rest

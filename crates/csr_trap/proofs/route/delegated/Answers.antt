@@ -1,0 +1,13 @@
+-- `csr_trap::route::delegated` meets its contract: a number of 64 bits has no bit beyond 63. Assumes nothing.
+use Prim.Native.Nat.{◌^◌, ◌<◌, ◌≤◌}
+use native.Mathlib.Nat.{div-eq_of_lt}
+use native.Mathlib.Omega.{arith}
+use lib.Pow.{pow_mono}
+use Rattle.csr_trap.proofs.route.delegated.Goals as goal
+
+pub returns : goal.returns
+returns c =
+    let a = c.args in
+    let p : 2 ^ 64 ≤ 2 ^ a.cause = pow_mono c.if-cause-lt64.false in
+    let l : a.medeleg < 2 ^ a.cause = omega arith in
+    rw (div-eq_of_lt l)
