@@ -65,7 +65,7 @@ pub fn is_good(t: &[u64; 512], line: &[u8], upper: u64, len: u64) -> bool
     )
 }
 
-// The upper address after a well_formed_lem line.
+// The upper address after a well-formed line.
 pub fn upper_after(t: &[u64; 512], upper: u64, line: &[u8]) -> u64
     requires { IsTable t.now × (well_formed line.now ≡ true) × (upper ≤ 65535) }
     ensures { (result ≡ upper_after_of upper line.now) × (result ≤ 65535) }
@@ -76,7 +76,7 @@ pub fn upper_after(t: &[u64; 512], upper: u64, line: &[u8]) -> u64
     upper
 }
 
-// The start address after a well_formed_lem line.
+// The start address after a well-formed line.
 pub fn start_after(t: &[u64; 512], s: Start, line: &[u8]) -> Start
     requires { IsTable t.now × (well_formed line.now ≡ true) }
     ensures { result ≡ start_after_of s line.now }

@@ -21,10 +21,10 @@ first_bad-v-requires c =
 
 pub store-requires : goal.store-requires
 store-requires c = (
-      c.table-t.ensures,
-      none_bad (length c.args.mem.now) 0 1 (lines_of c.args.text.now) (omega arith)
-          (sym c.first_bad-v.ensures.line_value ∙ c.if-bad-eq0.true),
-    )
+  c.table-t.ensures,
+  none_bad (length c.args.mem.now) 0 1 (lines_of c.args.text.now) (omega arith)
+      (sym c.first_bad-v.ensures.line_value ∙ c.if-bad-eq0.true),
+)
 
 pub returns-then-bad-eq0 : goal.returns-then-bad-eq0
 returns-then-bad-eq0 c =

@@ -38,10 +38,10 @@ put-requires c =
 
 pub upper_after-upper-requires : goal.upper_after-upper-requires
 upper_after-upper-requires c = (
-      c.requires.0,
-      well_formed_lem _ _ _ (line (goal.at.upper_after-upper-requires c).After-any).fine,
-      c.loop-at.invariant.2,
-    )
+  c.requires.0,
+  well_formed_lem _ _ _ (line (goal.at.upper_after-upper-requires c).After-any).fine,
+  c.loop-at.invariant.2,
+)
 
 pub end-at-requires : goal.end-at-requires
 end-at-requires c = (omega arith, (line (goal.at.end-at-requires c).After-any).high)

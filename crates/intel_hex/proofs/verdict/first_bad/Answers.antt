@@ -20,7 +20,7 @@ use Rattle.intel_hex.proofs.verdict.first_bad.Goals.{Else-r-ne0}
 pub returns-then-r-ne0-clause-line_value : goal.returns-then-r-ne0-clause-line_value
 returns-then-r-ne0-clause-line_value c =
     sym (c.loop-at.invariant.4 ∙ bad_line c.args.len c.loop-at.upper (some c.args.text.now c.loop-at.at c.loop-at-test.true)
-        c.loop-at.n (read_bad c.args.text.now c.loop-at.at _ _ _ c.read-r.ensures c.if-r-ne0.true c.args.len c.loop-at.upper))
+    c.loop-at.n (read_bad c.args.text.now c.loop-at.at _ _ _ c.read-r.ensures c.if-r-ne0.true c.args.len c.loop-at.upper))
 
 -- a line that has the sum 0
 abbrev line : (c : Else-r-ne0) → List ℕ
@@ -43,10 +43,10 @@ is_good-requires c =
 -- it is good
 pub upper_after-upper-requires : goal.upper_after-upper-requires
 upper_after-upper-requires c = (
-      c.requires.0,
-      well_formed_lem c.args.len c.loop-at.upper _ (sym c.is_good.ensures ∙ c.if-is_good.true),
-      c.loop-at.invariant.3,
-    )
+  c.requires.0,
+  well_formed_lem c.args.len c.loop-at.upper _ (sym c.is_good.ensures ∙ c.if-is_good.true),
+  c.loop-at.invariant.3,
+)
 
 pub start_after-start-requires : goal.start_after-start-requires
 start_after-start-requires c =
@@ -63,7 +63,7 @@ returns-then-byte-eq1-clause-line_value c =
     let k = cut (goal.at.returns-then-byte-eq1-clause-line_value c).Else-r-ne0 in
     let e = sym c.byte.ensures.0 ∙ c.if-byte-eq1.true in
     c.later.ensures ∙ sym (c.loop-at.invariant.4 ∙ end_line c.args.len c.loop-at.upper k.lines c.loop-at.n
-        (sym c.is_good.ensures ∙ c.if-is_good.true) e)
+    (sym c.is_good.ensures ∙ c.if-is_good.true) e)
 
 pub returns-then-byte-eq1-clause-start_value : goal.returns-then-byte-eq1-clause-start_value
 unfolding last_start
@@ -94,8 +94,8 @@ loop-at-preserved c =
 pub returns-else-is_good-clause-line_value : goal.returns-else-is_good-clause-line_value
 returns-else-is_good-clause-line_value c =
     sym (c.loop-at.invariant.4 ∙ bad_line c.args.len c.loop-at.upper
-        (cut (goal.at.returns-else-is_good-clause-line_value c).Else-r-ne0).lines c.loop-at.n
-        (sym c.is_good.ensures ∙ c.if-is_good.false))
+    (cut (goal.at.returns-else-is_good-clause-line_value c).Else-r-ne0).lines c.loop-at.n
+    (sym c.is_good.ensures ∙ c.if-is_good.false))
 
 -- nothing ended the file
 pub returns-clause-line_value : goal.returns-clause-line_value
