@@ -24,6 +24,7 @@ fn fixed(count: u64, offset: u64, wanted: u64) -> bool
 }
 
 // No byte of a data record is outside memory.
+#[tactic(auto, unfolding(crate::specs::Line::inside))]
 fn is_inside(len: u64, count: u64, address: u64) -> bool
     requires { (len ≤ 1048576) × (count ≤ 255) × (address < 2 ^ 32) }
     ensures { result ≡ inside len 0 count address }
