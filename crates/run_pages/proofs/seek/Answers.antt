@@ -35,4 +35,4 @@ overflow_add-result-then-ps-j c =
     record { fits = omega (arith, h, c.requires.0) }
 
 pub returns-then-ps-j-clause-place : goal.returns-then-ps-j-clause-place
-returns-then-ps-j-clause-place c = λ e. (hit ((goal.at.returns-then-ps-j c).Then-ps-j)).1
+returns-then-ps-j-clause-place c = λ e. (hit ((goal.at.returns-then-ps-j-clause-place c).Then-ps-j)).1
