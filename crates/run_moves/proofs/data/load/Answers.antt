@@ -9,6 +9,6 @@ use Rattle.run_moves.proofs.data.load.Goals as goal
 pub returns-in-Load : goal.returns-in-Load
 unfolding execute_of access_of passed_of
 returns-in-Load c =
-    let told = read decode_load_of c.split.ensures c.imm-i.ensures c.load.ensures c.access.given.1 in
+    let told = read decode_load_of c.split.ensures c.imm_i.ensures c.load.ensures c.in-Memory.is in
     λ ssp rest. does_as c.load_at.result _ _ _ rest _ _ rest _
-    (rw (told, c.access2.given.1, c.sum-a.ensures, c.reg.ensures) (load_parts _ _ _ _ _ _ _ _ _)) (c.load_at.ensures rest)
+    (rw (told, c.in-Load.is, c.sum-a.ensures, c.reg.ensures) (load_parts _ _ _ _ _ _ _ _ _)) (c.load_at.ensures rest)

@@ -15,6 +15,6 @@ store-requires c = rw c.index.ensures (place_index _ _ _ _ _ _ _
 pub returns-in-At : goal.returns-in-At
 unfolding done_of
 returns-in-At c =
-    let top = c.difference.ensures in
+    let top = c.difference-top.ensures in
     λ x. placed _ _ _ _ _ _ _ _ _ _ _ _ _ _ _ (sym (rw top at c.translate.ensures) ∙ c.in-At.is)
     (c.sum.ensures, refl, rw top, rw c.index.ensures at c.store.ensures)
