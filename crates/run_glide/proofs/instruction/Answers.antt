@@ -18,7 +18,7 @@ pub returns-then-t : goal.returns-then-t
 returns-then-t c =
     let a = c.args in
     quickly a.pc a.x.now a.w.now a.mem.now c.requires.1 a.map.now a.word c.requires.3 c.word-t.result.done
-    c.word-t.result.pc c.word-t.new.1.0 c.word-t.new.1.1.0 c.word-t.new.1.1.1.1.1.0 (rw c.requires.2.0 at c.word-t.ensures)
+    c.word-t.result.pc c.word-t.new.x c.word-t.new.rest c.word-t.new.mem (rw c.requires.2.0 at c.word-t.ensures)
 
 pub returns-then-handle : goal.returns-then-handle
 returns-then-handle c =

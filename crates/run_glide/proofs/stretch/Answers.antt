@@ -10,4 +10,4 @@ loop-left-preserved c =
     let l = c.loop-left in
     let d = rw c.if-t.true at c.turn-t.ensures in
     let n = again _ _ l.left Fetch (hart_at l.pc l.x l.w) l.mem _ l.invariant.3 c.loop-left-test.true d.0 in
-    (c.turn-t.auto.1.1.1.1.1.0 ∙ l.invariant.0, d.3, d.4 ∙ l.invariant.2, rw (d.1, d.2) at n)
+    (c.turn-t.auto.mem ∙ l.invariant.0, d.3, d.4 ∙ l.invariant.2, rw (d.1, d.2) at n)
