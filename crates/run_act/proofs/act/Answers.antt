@@ -20,7 +20,7 @@ use Rattle.run_act.specs.declared.Acted.{Acted}
 use Rattle.run_act.proofs.Arms.{Case, Acts, compute_arm, word_arm, ssp_arm, jal_arm, jalr_arm, branch_arm}
 use Rattle.run_act.proofs.Arms.{load_arm, store_arm, push_arm, pop_arm}
 use Rattle.run_act.proofs.act.Goals as goal
-use Rattle.run_act.proofs.act.Goals.{After-shared_slice_known-1, After-sum-b, In-ReadSsp-1}
+use Rattle.run_act.proofs.act.Goals.{After-sum-b}
 
 module _ (g : After-sum-b) where
 
@@ -347,84 +347,84 @@ returns-in-Bgeu c =
 
 pub returns-in-Lb : goal.returns-in-Lb
 returns-in-Lb c =
-    let all = load_arm (case ((goal.at.returns-in-Lb c).After-shared_slice_known-1)) _ c.load.result _ _ _ c.load.ensures
+    let all = load_arm (case ((goal.at.returns-in-Lb c).After-sum-b)) _ c.load.result _ _ _ (c.load.ensures.does, c.load.ensures.pages)
         (ap shape_of c.in-Lb.is) in
     record { does = all.0; stored = all.1.0; pages = all.1.1 }
 
 pub returns-in-Lh : goal.returns-in-Lh
 returns-in-Lh c =
-    let all = load_arm (case ((goal.at.returns-in-Lh c).After-shared_slice_known-1)) _ c.load-in-Lh.result _ _ _ c.load-in-Lh.ensures
+    let all = load_arm (case ((goal.at.returns-in-Lh c).After-sum-b)) _ c.load-in-Lh.result _ _ _ (c.load-in-Lh.ensures.does, c.load-in-Lh.ensures.pages)
         (ap shape_of c.in-Lh.is) in
     record { does = all.0; stored = all.1.0; pages = all.1.1 }
 
 pub returns-in-Lw : goal.returns-in-Lw
 returns-in-Lw c =
-    let all = load_arm (case ((goal.at.returns-in-Lw c).After-shared_slice_known-1)) _ c.load-in-Lw.result _ _ _ c.load-in-Lw.ensures
+    let all = load_arm (case ((goal.at.returns-in-Lw c).After-sum-b)) _ c.load-in-Lw.result _ _ _ (c.load-in-Lw.ensures.does, c.load-in-Lw.ensures.pages)
         (ap shape_of c.in-Lw.is) in
     record { does = all.0; stored = all.1.0; pages = all.1.1 }
 
 pub returns-in-Ld : goal.returns-in-Ld
 returns-in-Ld c =
-    let all = load_arm (case ((goal.at.returns-in-Ld c).After-shared_slice_known-1)) _ c.load-in-Ld.result _ _ _ c.load-in-Ld.ensures
+    let all = load_arm (case ((goal.at.returns-in-Ld c).After-sum-b)) _ c.load-in-Ld.result _ _ _ (c.load-in-Ld.ensures.does, c.load-in-Ld.ensures.pages)
         (ap shape_of c.in-Ld.is) in
     record { does = all.0; stored = all.1.0; pages = all.1.1 }
 
 pub returns-in-Lbu : goal.returns-in-Lbu
 returns-in-Lbu c =
-    let all = load_arm (case ((goal.at.returns-in-Lbu c).After-shared_slice_known-1)) _ c.load-in-Lbu.result _ _ _ c.load-in-Lbu.ensures
+    let all = load_arm (case ((goal.at.returns-in-Lbu c).After-sum-b)) _ c.load-in-Lbu.result _ _ _ (c.load-in-Lbu.ensures.does, c.load-in-Lbu.ensures.pages)
         (ap shape_of c.in-Lbu.is) in
     record { does = all.0; stored = all.1.0; pages = all.1.1 }
 
 pub returns-in-Lhu : goal.returns-in-Lhu
 returns-in-Lhu c =
-    let all = load_arm (case ((goal.at.returns-in-Lhu c).After-shared_slice_known-1)) _ c.load-in-Lhu.result _ _ _ c.load-in-Lhu.ensures
+    let all = load_arm (case ((goal.at.returns-in-Lhu c).After-sum-b)) _ c.load-in-Lhu.result _ _ _ (c.load-in-Lhu.ensures.does, c.load-in-Lhu.ensures.pages)
         (ap shape_of c.in-Lhu.is) in
     record { does = all.0; stored = all.1.0; pages = all.1.1 }
 
 pub returns-in-Lwu : goal.returns-in-Lwu
 returns-in-Lwu c =
-    let all = load_arm (case ((goal.at.returns-in-Lwu c).After-shared_slice_known-1)) _ c.load-in-Lwu.result _ _ _ c.load-in-Lwu.ensures
+    let all = load_arm (case ((goal.at.returns-in-Lwu c).After-sum-b)) _ c.load-in-Lwu.result _ _ _ (c.load-in-Lwu.ensures.does, c.load-in-Lwu.ensures.pages)
         (ap shape_of c.in-Lwu.is) in
     record { does = all.0; stored = all.1.0; pages = all.1.1 }
 
 pub returns-in-Sb : goal.returns-in-Sb
 returns-in-Sb c =
     let all = store_arm (case ((goal.at.returns-in-Sb c).After-sum-b)) _ c.store.result _ _
-        c.store.ensures (ap shape_of c.in-Sb.is) in
+        (c.store.ensures.does, (c.store.ensures.stored, c.store.ensures.pages)) (ap shape_of c.in-Sb.is) in
     record { does = all.0; stored = all.1.0; pages = all.1.1 }
 
 pub returns-in-Sh : goal.returns-in-Sh
 returns-in-Sh c =
     let all = store_arm (case ((goal.at.returns-in-Sh c).After-sum-b)) _ c.store-in-Sh.result _ _
-        c.store-in-Sh.ensures (ap shape_of c.in-Sh.is) in
+        (c.store-in-Sh.ensures.does, (c.store-in-Sh.ensures.stored, c.store-in-Sh.ensures.pages)) (ap shape_of c.in-Sh.is) in
     record { does = all.0; stored = all.1.0; pages = all.1.1 }
 
 pub returns-in-Sw : goal.returns-in-Sw
 returns-in-Sw c =
     let all = store_arm (case ((goal.at.returns-in-Sw c).After-sum-b)) _ c.store-in-Sw.result _ _
-        c.store-in-Sw.ensures (ap shape_of c.in-Sw.is) in
+        (c.store-in-Sw.ensures.does, (c.store-in-Sw.ensures.stored, c.store-in-Sw.ensures.pages)) (ap shape_of c.in-Sw.is) in
     record { does = all.0; stored = all.1.0; pages = all.1.1 }
 
 pub returns-in-Sd : goal.returns-in-Sd
 returns-in-Sd c =
     let all = store_arm (case ((goal.at.returns-in-Sd c).After-sum-b)) _ c.store-in-Sd.result _ _
-        c.store-in-Sd.ensures (ap shape_of c.in-Sd.is) in
+        (c.store-in-Sd.ensures.does, (c.store-in-Sd.ensures.stored, c.store-in-Sd.ensures.pages)) (ap shape_of c.in-Sd.is) in
     record { does = all.0; stored = all.1.0; pages = all.1.1 }
 
 pub returns-in-Push : goal.returns-in-Push
 returns-in-Push c =
     let all = push_arm (case ((goal.at.returns-in-Push c).After-sum-b)) _ c.push.result _ _
-        c.push.ensures (ap shape_of c.in-Push.is) in
+        (c.push.ensures.does, (c.push.ensures.stored, c.push.ensures.pages)) (ap shape_of c.in-Push.is) in
     record { does = all.0; stored = all.1.0; pages = all.1.1 }
 
 pub returns-in-Pop : goal.returns-in-Pop
 returns-in-Pop c =
-    let all = pop_arm (case ((goal.at.returns-in-Pop c).After-shared_slice_known-1)) _ c.pop.result _ c.pop.ensures
+    let all = pop_arm (case ((goal.at.returns-in-Pop c).After-sum-b)) _ c.pop.result _ (c.pop.ensures.does, c.pop.ensures.pages)
         (ap shape_of c.in-Pop.is) in
     record { does = all.0; stored = all.1.0; pages = all.1.1 }
 
 pub returns-in-ReadSsp : goal.returns-in-ReadSsp
 returns-in-ReadSsp c =
-    let all = ssp_arm (case ((goal.at.returns-in-ReadSsp c).In-ReadSsp-1)) _ _ _ _ c.computed-in-ReadSsp.ensures
+    let all = ssp_arm (case ((goal.at.returns-in-ReadSsp c).After-sum-b)) _ _ _ _ c.computed-in-ReadSsp.ensures
         c.requires.3 (ap shape_of c.in-ReadSsp.is) refl in
     record { does = all.0; stored = all.1.0; pages = all.1.1 }
