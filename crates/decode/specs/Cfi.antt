@@ -59,8 +59,8 @@ abbrev pub zimops : ℕ → Fields → Table Instruction
 zimops w f =
     0xCE104073 ⇒ Memory Push 0 0 1 0
     ¦ 0xCE504073 ⇒ Memory Push 0 0 5 0
-    ¦ 0x_cdc0_c073 ⇒ Memory Pop 0 1 0 0
-    ¦ 0x_cdc2_c073 ⇒ Memory Pop 0 5 0 0
+    ¦ 0xCDC0C073 ⇒ Memory Pop 0 1 0 0
+    ¦ 0xCDC2C073 ⇒ Memory Pop 0 5 0 0
     ¦ 0xCDC04073 ⇒ mop_of w f
     ¦ otherwise (look (w - bits w 11 7 * 2 ^ 7) (reads w f))
 
