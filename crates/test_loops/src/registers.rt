@@ -32,7 +32,7 @@ pub fn start() -> Hart
 }
 
 // After n = 500,000 turns x5 is 3 n, x6 the sum of 3 k for k from 1 to n, which is 3 n (n + 1) / 2, and x8 that sum taken from 0.
-// x7 is the sum of all that x6 was, n (n + 1) (n + 2) / 2 = 62,500,375,000,500,000 = 0x_de0_bc28_a3_bc720, of which the low 32 bits
+// x7 is the sum of all that x6 was, n (n + 1) (n + 2) / 2 = 62,500,375,000,500,000 = 0xDE0BC28A3BC720, of which the low 32 bits
 // stay, with the sign extended. x11 is twice x5, and x12 says that x5 is less than it. Four runs of 1,000,000 steps end with
 // the last bne; a fifth takes the ecall, to mtvec, which is 0, and saves its pc, cause 11, tval 0 and M in MPP.
 pub fn wanted() -> [u64; 28]

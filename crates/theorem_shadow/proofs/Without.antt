@@ -140,7 +140,7 @@ pointing = aimed 0x1020
 
 -- without the enable of senvcfg: sspopchk x5 only writes 0 to x0, whatever stands on the stack
 abbrev pub sspopchk : ℕ
-sspopchk = 0x_cdc2_c073
+sspopchk = 0xCDC2C073
 
 abbrev pub disabled : Hart
 disabled = with_word SENVCFG 0 hart₀

@@ -49,11 +49,11 @@ abbrev program : List ℕ
 program =
     bytes_of 4 0xCE104073
     ++ bytes_of 4 0xCE504073
-    ++ bytes_of 4 0x_cdc2_c073
-    ++ bytes_of 4 0x_cdc0_c073
-    ++ bytes_of 4 0x_cdc0_c073
+    ++ bytes_of 4 0xCDC2C073
+    ++ bytes_of 4 0xCDC0C073
+    ++ bytes_of 4 0xCDC0C073
     ++ bytes_of 4 0xCE504073
-    ++ bytes_of 4 0x_cdc0_c073
+    ++ bytes_of 4 0xCDC0C073
 
 -- two pages: the program's, and the stack's, where 0x1111 stands at index 0x1010
 unfoldable pub memory₀ : List ℕ
@@ -209,11 +209,11 @@ pub applies : Applies
 unfolding fetched_of decode_of system_of decode_csr_of zimop_of place_of reached_of control.effective_mode_of transformed_of mask_of aligned_of paged_place_of through_of
     page.lookup_of settle_of judge_of inside_of within_of setting_of control_of shadow_on pad_on mode_of memory₀ bytes_of number load_of store_of
 applies = record {
-  third = record { word = 0x_cdc2_c073; rd = 0; rs1 = 5; rs2 = 0; off = 0; arrives = refl; passes = refl; reads = refl; register = refl };
+  third = record { word = 0xCDC2C073; rd = 0; rs1 = 5; rs2 = 0; off = 0; arrives = refl; passes = refl; reads = refl; register = refl };
   third_at = refl;
-  fifth = record { word = 0x_cdc0_c073; rd = 0; rs1 = 1; rs2 = 0; off = 0; arrives = refl; passes = refl; reads = refl; register = refl };
+  fifth = record { word = 0xCDC0C073; rd = 0; rs1 = 1; rs2 = 0; off = 0; arrives = refl; passes = refl; reads = refl; register = refl };
   fifth_at = refl;
-  seventh = record { word = 0x_cdc0_c073; rd = 0; rs1 = 1; rs2 = 0; off = 0; arrives = refl; passes = refl; reads = refl; register = refl };
+  seventh = record { word = 0xCDC0C073; rd = 0; rs1 = 1; rs2 = 0; off = 0; arrives = refl; passes = refl; reads = refl; register = refl };
   seventh_at = refl;
   byte = record { entry = 1; stands = omega arith; valid = (refl, refl); frame = refl };
 }

@@ -1,0 +1,29 @@
+-- `address_place::window::page` meets its contract: its first address decides a page. Assumes nothing.
+use mathlib.Core.Path.{◌≡◌, sym, ◌∙◌}
+use Prim.Native.Nat.{◌-◌, ◌%◌}
+use native.Mathlib.Omega.{arith}
+use Rattle.isa.specs.declared.Width.TheVariants.{Word}
+use Rattle.isa.specs.declared.Kind.TheVariants.{Fetch}
+use Rattle.address_place.specs.Place.{place_of}
+use Rattle.address_place.specs.declared.Place.TheVariants.{At}
+use Rattle.address_place.proofs.Reach.{place_within}
+use Rattle.address_place.proofs.Windows.{page_shows}
+use lib.ListN.{length}
+use Rattle.address_place.proofs.window.page.Goals as goal
+
+pub returns-then-at-mem : goal.returns-then-at-mem
+returns-then-at-mem c =
+    let a = c.args in
+    let q = c.in-At.q in
+    let there : place_of a.c Fetch Word (a.a - a.a % 4096) a.map.now (length a.mem.now) ≡ At q = sym c.in-At.ensures in
+    let within = place_within a.c Fetch Word (a.a - a.a % 4096) a.map.now (length a.mem.now) q there in
+    page_shows a.c (a.a - a.a % 4096) a.map.now (length a.mem.now) q c.requires.1 (omega arith) there c.requires.0 within.0
+    c.if-at-mem.true (omega arith)
+
+pub returns-else-at-mem : goal.returns-else-at-mem
+returns-else-at-mem c =
+    let a = c.args in
+    c.closed.ensures a.c a.map.now (length a.mem.now)
+
+pub returns-in-Fault : goal.returns-in-Fault
+returns-in-Fault c = let a = c.args in c.closed-in-Fault.ensures a.c a.map.now (length a.mem.now)
