@@ -27,3 +27,9 @@ returns-else-at-mem c =
 
 pub returns-in-Fault : goal.returns-in-Fault
 returns-in-Fault c = let a = c.args in c.closed-in-Fault.ensures a.c a.map.now (length a.mem.now)
+
+pub overflow_sub-at : goal.overflow_sub-at
+overflow_sub-at c =
+    let a = c.args in
+    let there : place_of a.c Fetch Word (a.a - a.a % 4096) a.map.now (length a.mem.now) ≡ At c.in-At.q = sym c.in-At.ensures in
+    omega (arith, (place_within a.c Fetch Word (a.a - a.a % 4096) a.map.now (length a.mem.now) c.in-At.q there).0)
