@@ -19,6 +19,14 @@ def static():
     return re.findall(r"^(\w+) +staticlib:", LIST.read_text(), re.M)
 
 
+def brought(text):
+    """What the `use` lines of a source file bring: of each name the crate that it is from."""
+    found = {}
+    for crate, names in re.findall(r"^(?:pub )?use (\w+)::(?:\w+::)*(\w+|\{[^}]*\});", text, re.M):
+        found.update(dict.fromkeys(re.findall(r"\w+", names), crate))
+    return found
+
+
 @functools.cache
 def listed():
     """The crates and what each one lists."""
