@@ -1,4 +1,4 @@
--- One line: what it says, whether it is well_formed_lem, and whether it is good, which is all that refusal 6 asks of a line by itself.
+-- One line: what it says, whether it is well-formed, and whether it is good, which is all that refusal 6 asks of a line by itself.
 -- Rules 11.4 to 11.13 of docs/HART.md.
 --
 -- Below, l is a line, upper the upper address, len memory's length.

@@ -24,6 +24,7 @@ fn fixed(count: u64, offset: u64, wanted: u64) -> bool
 }
 
 // No byte of a data record is outside memory.
+#[tactic(auto, unfolding(crate::specs::Line::inside))]
 fn is_inside(len: u64, count: u64, address: u64) -> bool
     requires { (len ≤ 1048576) × (count ≤ 255) × (address < 2 ^ 32) }
     ensures { result ≡ inside len 0 count address }
@@ -65,7 +66,7 @@ pub fn is_good(t: &[u64; 512], line: &[u8], upper: u64, len: u64) -> bool
     )
 }
 
-// The upper address after a well_formed_lem line.
+// The upper address after a well-formed line.
 pub fn upper_after(t: &[u64; 512], upper: u64, line: &[u8]) -> u64
     requires { IsTable t.now × (well_formed line.now ≡ true) × (upper ≤ 65535) }
     ensures { (result ≡ upper_after_of upper line.now) × (result ≤ 65535) }
@@ -76,7 +77,7 @@ pub fn upper_after(t: &[u64; 512], upper: u64, line: &[u8]) -> u64
     upper
 }
 
-// The start address after a well_formed_lem line.
+// The start address after a well-formed line.
 pub fn start_after(t: &[u64; 512], s: Start, line: &[u8]) -> Start
     requires { IsTable t.now × (well_formed line.now ≡ true) }
     ensures { result ≡ start_after_of s line.now }

@@ -2,10 +2,18 @@
 use mathlib.Core.Path.{sym, ◌∙◌}
 use lib.ListN.{length}
 use Rattle.address_place.proofs.Reach.{place_within}
+use Rattle.run_pages.proofs.Kept.{at_index}
 use Rattle.run_pages.proofs.find.Goals as goal
 
 pub index-requires : goal.index-requires
 index-requires c =
     let a = c.args in
-    let q = c.q-1.given in
-    (place_within a.c a.k a.n a.a a.map.now (length a.mem.now) q.0.0 (sym c.translate.ensures ∙ q.1)).0
+    (place_within a.c a.k a.n a.a a.map.now (length a.mem.now) c.in-At.q (sym c.translate.ensures ∙ c.in-At.is)).0
+
+pub returns-in-At : goal.returns-in-At
+returns-in-At c =
+    let a = c.args in record {
+      place = λ e. at_index a.c a.k a.n a.a a.map.now (length a.mem.now) c.in-At.q c.index.result
+          (sym c.translate.ensures ∙ c.in-At.is) c.index.ensures;
+      pages = c.remember.ensures;
+    }

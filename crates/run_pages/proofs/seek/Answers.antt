@@ -7,31 +7,29 @@ use Rattle.address_place.specs.Place.{base, place_of}
 use Rattle.address_place.specs.declared.Place.TheVariants.{At}
 use Rattle.run_pages.proofs.Kept.{recalled, in_group}
 use Rattle.run_pages.proofs.seek.Goals as goal
+use Rattle.run_pages.proofs.seek.Goals.{Then-ps-j}
 
 -- a page that is remembered
-module _ (c : tie.After-t26) where
-  abbrev start : tie.Start
-  start = c.before.before.before.before.before.before
-
+module _ (c : Then-ps-j) where
   abbrev a : ℕ
-  a = start.args.a
+  a = c.args.a
 
   abbrev j : ℕ
-  j = start.args.group * 64 + a / 4096 % 64
+  j = c.args.group * 64 + a / 4096 % 64
 
   abbrev at : ℕ
-  at = get_or start.args.ps.now (j * 2 + 1) 0 + a % 4096
+  at = get_or c.args.ps.now (j * 2 + 1) 0 + a % 4096
 
   abbrev len : ℕ
-  len = length start.args.mem.now
+  len = length c.args.mem.now
 
-  hit : (at ≤ len) × (place_of start.args.c start.args.k start.args.n a start.args.map.now len ≡ At (record { 0 = base + at }))
+  hit : (at ≤ len) × (place_of c.args.c c.args.k c.args.n a c.args.map.now len ≡ At (record { 0 = base + at }))
   hit =
-      let g = in_group start.args.group (a / 4096 % 64) start.args.k start.pre.1 (omega arith) start.pre.2 in
-      recalled start.args.c start.args.k start.args.n a start.args.map.now len start.args.ps.now j
-      c.before.before.bytes.result start.pre.3 g.0 g.1 (omega arith) c.before.before.bytes.ensures.0 c.before.if1.true
+      let g = in_group c.args.group (a / 4096 % 64) c.args.k c.requires.1 (omega arith) c.requires.2 in
+      recalled c.args.c c.args.k c.args.n a c.args.map.now len c.args.ps.now j
+      c.bytes.result c.requires.3 g.0 g.1 (omega arith) c.bytes.ensures.0 c.if-ps-j.true
 
 pub overflow_add-result-then-ps-j : goal.overflow_add-result-then-ps-j
 overflow_add-result-then-ps-j c =
-    let h = (hit c).0 in
-    record { fits = omega (arith, h, (start c).requires.0) }
+    let h = (hit ((goal.at.overflow_add-result-then-ps-j c).Then-ps-j)).0 in
+    record { fits = omega (arith, h, c.requires.0) }

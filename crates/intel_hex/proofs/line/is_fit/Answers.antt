@@ -3,6 +3,7 @@ use mathlib.Core.Bool.{Bool, true, false, ◌&&◌}
 use mathlib.Core.Path.{◌≡◌, refl, ◌∙◌}
 use Rattle.word.proofs.Tables.{missed}
 use Rattle.intel_hex.specs.Line.{shaped, record_types, is_read, inside}
+use borrow.Author.Rules.{rules}
 use Rattle.intel_hex.proofs.line.is_fit.Goals as goal
 
 also : (a : Bool) → a ≡ a && true
@@ -31,4 +32,4 @@ returns-in-5 c = rw c.in-5.is (c.fixed-in-5.ensures ∙ also _)
 
 pub returns-in_default : goal.returns-in_default
 unfolding is_read
-returns-in_default c = let s = c.args in never (shaped s.kind s.count s.offset) _ _ (missed s.kind record_types c.in_default.in_default-own.rest)
+returns-in_default c = let s = c.args in never (shaped s.kind s.count s.offset) _ _ (missed s.kind record_types (search rules))

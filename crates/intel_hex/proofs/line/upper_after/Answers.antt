@@ -18,12 +18,11 @@ half-requires c =
 
 pub returns-then-byte-eq4 : goal.returns-then-byte-eq4
 unfolding upper_after_of
-returns-then-byte-eq4 c =
-    (
-      c.half.ensures.0 ∙ sym (first _ _ _ (eq-eqb (record_type_of c.args.line.now) 4
-          (sym c.byte.ensures.0 ∙ c.if-byte-eq4.true))),
-      c.half.ensures.1,
-    )
+returns-then-byte-eq4 c = (
+  c.half.ensures.0 ∙ sym (first _ _ _ (eq-eqb (record_type_of c.args.line.now) 4
+      (sym c.byte.ensures.0 ∙ c.if-byte-eq4.true))),
+  c.half.ensures.1,
+)
 
 pub returns : goal.returns
 unfolding upper_after_of

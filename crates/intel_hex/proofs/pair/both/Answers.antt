@@ -9,8 +9,7 @@ overflow_add-result-2 c =
     omega arith
 
 pub returns : goal.returns
-returns c =
-    (
-      both_are c.args.t.now c.requires c.args.high c.args.low (omega arith) (omega arith),
-      both_most c.args.t.now c.requires c.args.high c.args.low (omega arith) (omega arith),
-    )
+returns c = (
+  both_are c.args.t.now c.requires c.args.high c.args.low (omega arith) (omega arith),
+  both_most c.args.t.now c.requires c.args.high c.args.low (omega arith) (omega arith),
+)

@@ -1,6 +1,6 @@
 -- `intel_hex::scan::pairs` meets its contract: the sum up to i, two pairs a turn, and the one that may be left. Assumes nothing.
 use mathlib.Core.Path.{◌≡◌}
-use Prim.Native.Nat.{◌+◌, ◌-◌}
+use Prim.Native.Nat.{◌+◌}
 use native.Mathlib.Omega.{arith}
 use Rattle.intel_hex.proofs.Scans.{along_more, judged}
 use Rattle.intel_hex.proofs.scan.pairs.Goals as goal
