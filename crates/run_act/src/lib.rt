@@ -172,8 +172,8 @@ fn push(
     pages: &mut [u64; PAGES],
 ) -> Acted
     requires { (length mem.old ≤ 2 ^ 20) × Remembers pages.old c map.now (length mem.old) }
-    ensures does { (x : List ℕ) → Does result.done (at_of access.Push (place_of c kind.Push Double (push_of (SSP of (λ x. x.now) w.entry))
-        map.now (length mem.old)) 0 0 v (SSP of (λ x. x.now) w.entry) (next_of pc) mem.old) x w.old
+    ensures does { (x : List ℕ) → Does result.done (at_of access.Push (place_of c kind.Push Double (push_of (SSP of w.old))
+        map.now (length mem.old)) 0 0 v (SSP of w.old) (next_of pc) mem.old) x w.old
         mem.old result.pc x w.new mem.new }
     ensures stored { Touched result.stored mem.old mem.new }
     ensures pages { Remembers pages.new c map.now (length mem.old) }
@@ -203,8 +203,8 @@ fn pop(
     pages: &mut [u64; PAGES],
 ) -> Acted
     requires { (length mem.now ≤ 2 ^ 20) × Remembers pages.old c map.now (length mem.now) }
-    ensures does { (result.stored ≡ 0) × ((x : List ℕ) → Does result.done (at_of access.Pop (place_of c kind.Pop Double (SSP of (λ x. x.now) w.entry)
-        map.now (length mem.now)) 0 v 0 (SSP of (λ x. x.now) w.entry) (next_of pc) mem.now) x w.old
+    ensures does { (result.stored ≡ 0) × ((x : List ℕ) → Does result.done (at_of access.Pop (place_of c kind.Pop Double (SSP of w.old)
+        map.now (length mem.now)) 0 v 0 (SSP of w.old) (next_of pc) mem.now) x w.old
         mem.now result.pc x w.new mem.now) }
     ensures pages { Remembers pages.new c map.now (length mem.now) }
 {
@@ -235,8 +235,8 @@ pub fn act(
     pages: &mut [u64; PAGES],
 ) -> Acted
     requires { (length mem.old ≤ 2 ^ 20) × (rd < 32) × (get_or x.old 0 0 ≡ 0) × Remembers pages.old c map.now (length mem.old) }
-    ensures does { Does result.done (does_of op rd a r v pc (SSP of (λ x. x.now) w.entry) c mem.old map.now) x.entry.now
-        w.old mem.old result.pc x.exit.now w.new mem.new }
+    ensures does { Does result.done (does_of op rd a r v pc (SSP of w.old) c mem.old map.now) x.old
+        w.old mem.old result.pc x.new w.new mem.new }
     ensures stored { Touched result.stored mem.old mem.new }
     ensures pages { Remembers pages.new c map.now (length mem.old) }
 {

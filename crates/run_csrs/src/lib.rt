@@ -84,9 +84,9 @@ fn csr(
     address: u16,
 )
     requires { k < COUNT }
-    ensures { (x.exit.now ≡ put_of rd (held_of address (k of (λ x. x.now) rest.entry)) x.entry.now)
+    ensures { (x.new ≡ put_of rd (held_of address (k of rest.old)) x.old)
         × (rest.new ≡ pick (writes_of o rs1)
-        (rest.old but k ≔ held_of address (merged_of o (held_of address (k of (λ x. x.now) rest.entry)) (reg_of x.entry.now rs1)))
+        (rest.old but k ≔ held_of address (merged_of o (held_of address (k of rest.old)) (reg_of x.old rs1)))
         rest.old) }
 {
     let old = held(address, rest[k]);
@@ -99,9 +99,9 @@ fn csr(
 // A word whose opcode and funct3 are those of CSR operation o with a register.
 fn csr_word(w: u32, x: &mut [u64; 32], rest: &mut [u64; COUNT], o: CsrOperation) -> bool
     ensures { (next : ℕ) (permitted : Bool)
-        → Handles result (csr_effect_of o (Register (bits w 19 15)) (bits w 11 7) (bits w 31 20) w x.entry.now next
-        (mode_of (MODE of (λ x. x.now) rest.entry)) permitted)
-        x.entry.now rest.old next x.exit.now rest.new }
+        → Handles result (csr_effect_of o (Register (bits w 19 15)) (bits w 11 7) (bits w 31 20) w x.old next
+        (mode_of (MODE of rest.old)) permitted)
+        x.old rest.old next x.new rest.new }
 {
     let address = (w / 1048576 % 4096) as u16;
     match slot(address, rest[MODE]) {
@@ -117,9 +117,9 @@ fn csr_word(w: u32, x: &mut [u64; 32], rest: &mut [u64; COUNT], o: CsrOperation)
 // One word, by funct3 and opcode, on the registers x and the hart's other words; whether it was done. If so, pc goes on to the next
 // instruction, which is left to the caller.
 pub fn handle(w: u32, x: &mut [u64; 32], rest: &mut [u64; COUNT]) -> bool
-    ensures { (pc ssp : ℕ) (s : Setting) (m map : List ℕ) → s.control.mode ≡ mode_of (MODE of (λ x. x.now) rest.entry)
-        → Handles result (execute_of (decode_of w) w x.entry.now pc ssp s m map)
-        x.entry.now rest.old (next_of pc) x.exit.now rest.new }
+    ensures { (pc ssp : ℕ) (s : Setting) (m map : List ℕ) → s.control.mode ≡ mode_of (MODE of rest.old)
+        → Handles result (execute_of (decode_of w) w x.old pc ssp s m map)
+        x.old rest.old (next_of pc) x.new rest.new }
 {
     match w / 4096 % 8 * 128 + w % 128 {
         0b001_1110011 => csr_word(w, x, rest, CsrOperation::Write),

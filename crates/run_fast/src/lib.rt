@@ -236,10 +236,10 @@ fn handled(
     w: &mut [u64; COUNT],
 ) -> bool
     requires { (k < 4096) × (index_at nums.now k + 4 ≤ length mem.now) }
-    ensures { (pc ssp : ℕ) (s : setting.Setting) (m map : List ℕ) → s.control.mode ≡ mode_of (MODE of (λ x. x.now) w.entry)
+    ensures { (pc ssp : ℕ) (s : setting.Setting) (m map : List ℕ) → s.control.mode ≡ mode_of (MODE of w.old)
         → Handles result (execute_of (decode_of (load_of mem.now (index_at nums.now k) 4))
-        (load_of mem.now (index_at nums.now k) 4) x.entry.now pc ssp s m map)
-        x.entry.now w.old (next_of pc) x.exit.now w.new }
+        (load_of mem.now (index_at nums.now k) 4) x.old pc ssp s m map)
+        x.old w.old (next_of pc) x.new w.new }
 {
     let at = number(nums, k + 4096) as usize;
     run_csrs::handle(memory::word(mem, at), x, w)

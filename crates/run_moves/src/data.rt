@@ -175,8 +175,8 @@ pub fn store(w: u32, x: &[u64; 32], pc: u64, k: Context, mem: &mut [u8], map: &[
 // A push of v: to ssp - 8, which is then ssp.
 fn push(v: u64, pc: u64, rest: &mut [u64; COUNT], c: Control, mem: &mut [u8], map: &[u64]) -> Tried
     requires { length mem.old ≤ 2 ^ 20 }
-    ensures { (x : List ℕ) → Does result.done (at_of access.Push (place_of c kind.Push Double (push_of (SSP of (λ x. x.now) rest.entry))
-        map.now (length mem.old)) 0 0 v (SSP of (λ x. x.now) rest.entry) (next_of pc) mem.old) x rest.old
+    ensures { (x : List ℕ) → Does result.done (at_of access.Push (place_of c kind.Push Double (push_of (SSP of rest.old))
+        map.now (length mem.old)) 0 0 v (SSP of rest.old) (next_of pc) mem.old) x rest.old
         mem.old result.pc x rest.new mem.new }
 {
     let top = sum::difference(rest[SSP], 8);
@@ -196,8 +196,8 @@ fn push(v: u64, pc: u64, rest: &mut [u64; COUNT], c: Control, mem: &mut [u8], ma
 // A pop-check of v: at ssp, which goes up by 8 where v is found.
 fn pop(v: u64, pc: u64, rest: &mut [u64; COUNT], c: Control, mem: &[u8], map: &[u64]) -> Tried
     requires { length mem.now ≤ 2 ^ 20 }
-    ensures { (x : List ℕ) → Does result.done (at_of access.Pop (place_of c kind.Pop Double (SSP of (λ x. x.now) rest.entry) map.now
-        (length mem.now)) 0 v 0 (SSP of (λ x. x.now) rest.entry) (next_of pc) mem.now) x rest.old mem.now
+    ensures { (x : List ℕ) → Does result.done (at_of access.Pop (place_of c kind.Pop Double (SSP of rest.old) map.now
+        (length mem.now)) 0 v 0 (SSP of rest.old) (next_of pc) mem.now) x rest.old mem.now
         result.pc x rest.new mem.now }
 {
     let ssp = rest[SSP];
@@ -228,8 +228,8 @@ pub fn shadow(
     map: &[u64],
 ) -> Tried
     requires { length mem.old ≤ 2 ^ 20 }
-    ensures { Does result.done (execute_of (system_of w (fields_of w)) w x.entry.now pc (SSP of (λ x. x.now) rest.entry) k.setting
-        mem.old map.now) x.entry.now rest.old mem.old result.pc x.entry.now rest.new
+    ensures { Does result.done (execute_of (system_of w (fields_of w)) w x.old pc (SSP of rest.old) k.setting
+        mem.old map.now) x.old rest.old mem.old result.pc x.old rest.new
         mem.new }
 {
     let c = k.setting.control;

@@ -59,8 +59,8 @@ pub fn word(
     map: &[u64],
 ) -> Tried
     requires { (length mem.old ≤ 2 ^ 20) × (k.flat ≡ flat_of k.setting.control) }
-    ensures { Does result.done (execute_of (decode_of w) w x.entry.now pc (SSP of (λ x. x.now) rest.entry) k.setting mem.old
-        map.now) x.entry.now rest.old mem.old result.pc x.exit.now rest.new mem.new }
+    ensures { Does result.done (execute_of (decode_of w) w x.old pc (SSP of rest.old) k.setting mem.old
+        map.now) x.old rest.old mem.old result.pc x.new rest.new mem.new }
 {
     match w % 128 {
         0b0110111 => compute::lui(w, x, pc),

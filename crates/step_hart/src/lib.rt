@@ -9,7 +9,7 @@ pub mod legal;
 pub mod methods;
 pub mod step;
 
-#[derive(Drop)]
+#[derive(Clone, Copy)]
 pub struct Hart {
     pub x: [u64; 32],
     pub words: [u64; COUNT],

@@ -37,12 +37,21 @@ fn fits(letter: u8, compared: usize, wanted: usize) -> bool {
 }
 
 // What came of a case, held against the wanted numbers. The numbers of a hart are many, and are named where they differ.
-fn held(letter: u8, c: Counts, s: &[u8], at: Line, wanted: &[u64], got: &[u64]) -> Counts
+fn held(
+    rt: &impl Print,
+    letter: u8,
+    c: Counts,
+    s: &[u8],
+    at: Line,
+    wanted: &[u64],
+    got: &[u64],
+) -> Counts
     requires { (at.equals ≤ length s.now) × (at.text ≤ length s.now) }
     ensures { result.cases ≡ one_more_of c.cases }
 {
     match letter {
         b'C' => report::compared(
+            rt,
             c,
             s,
             at,
@@ -53,6 +62,7 @@ fn held(letter: u8, c: Counts, s: &[u8], at: Line, wanted: &[u64], got: &[u64]) 
             got,
         ),
         b'H' => report::compared(
+            rt,
             c,
             s,
             at,
@@ -62,13 +72,14 @@ fn held(letter: u8, c: Counts, s: &[u8], at: Line, wanted: &[u64], got: &[u64]) 
             wanted,
             got,
         ),
-        _ => report::judged(c, s, at, wanted, got),
+        _ => report::judged(rt, c, s, at, wanted, got),
     }
 }
 
 // A case of which so many numbers came, 0 where its given numbers, or its pairs, are none that can be: the first numbers of both rows are
 // compared. The line has `had` wanted numbers.
 pub fn told(
+    rt: &impl Print,
     letter: u8,
     c: Counts,
     s: &[u8],
@@ -83,6 +94,7 @@ pub fn told(
 {
     if count == 0 {
         return report::broken(
+            rt,
             c,
             s,
             b"not the given numbers, or not pairs of memory, that a case of this file has",
@@ -90,6 +102,7 @@ pub fn told(
     }
     if !fits(letter, count, had) {
         return report::broken(
+            rt,
             c,
             s,
             b"not as many wanted numbers as a case of this file has",
@@ -97,5 +110,5 @@ pub fn told(
     }
     let right = &wanted[..];
     let came = &got[..];
-    held(letter, c, s, at, &right[0..count], &came[0..count])
+    held(rt, letter, c, s, at, &right[0..count], &came[0..count])
 }

@@ -18,19 +18,20 @@ fn ran(got: &mut [u64; MOST], h: Hart, code: &[u64], map: &[u64], at: usize) {
 }
 
 // One loop, and how it is to end: pairs of a place among the numbers and a number (`chain::wanted`).
-fn lap(name: &[u8], h: Hart, code: &[u64], map: &[u64], at: usize, pairs: &[u64]) {
+fn lap(rt: &impl Print, name: &[u8], h: Hart, code: &[u64], map: &[u64], at: usize, pairs: &[u64]) {
     let mut wanted = [0u64; MOST];
     let mut got = [0u64; MOST];
     chain::wanted(&mut wanted, pairs);
     ran(&mut got, h, code, map, at);
-    told::told(name, &wanted, &got);
+    told::told(rt, name, &wanted, &got);
 }
 
-fn first() {
+fn first(rt: &impl Print) {
     let code = registers::code();
     let map = [0u64; 2];
     let pairs = registers::wanted();
     lap(
+        rt,
         b"registers only",
         registers::start(),
         &code,
@@ -40,11 +41,12 @@ fn first() {
     );
 }
 
-fn second() {
+fn second(rt: &impl Print) {
     let code = doubles::code();
     let map = [0u64; 2];
     let pairs = doubles::wanted();
     lap(
+        rt,
         b"loads and stores",
         doubles::start(),
         &code,
@@ -54,11 +56,12 @@ fn second() {
     );
 }
 
-fn third() {
+fn third(rt: &impl Print) {
     let code = calls::code();
     let map = calls::map();
     let pairs = calls::wanted();
     lap(
+        rt,
         b"calls with landing pads and a shadow stack",
         calls::start(),
         &code,
@@ -68,8 +71,8 @@ fn third() {
     );
 }
 
-fn main() {
-    first();
-    second();
-    third();
+fn main(rt: HostRuntime) {
+    first(&rt);
+    second(&rt);
+    third(&rt);
 }

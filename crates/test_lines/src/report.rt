@@ -6,7 +6,6 @@ ghost use Rattle.test_lines.specs.Counted.{one_more_of};
 use super::file::End;
 use super::line::{Fault, Line};
 use super::row;
-use libc::STDOUT_FILENO;
 
 #[derive(Clone, Copy)]
 pub struct Counts {
@@ -14,8 +13,8 @@ pub struct Counts {
     pub failed: u64,
 }
 
-fn print(text: &[u8]) {
-    io::write_all(STDOUT_FILENO, text);
+fn print(rt: &impl Print, text: &[u8]) {
+    let _ = rt.write_all(text);
 }
 
 // Stays at the largest number, so that a count never falls back to 0.
@@ -44,39 +43,46 @@ fn failed(c: Counts) -> Counts
 }
 
 // A heading or an empty line: printed as it is, and no case.
-pub fn heading(c: Counts, s: &[u8]) -> Counts
+pub fn heading(rt: &impl Print, c: Counts, s: &[u8]) -> Counts
     ensures { result ≡ c }
 {
-    print(s);
-    print(b"\n");
+    print(rt, s);
+    print(rt, b"\n");
     c
 }
 
 // A line or a file that cannot be run: `what` says which, and `why` what is wrong with it.
-pub fn broken(c: Counts, what: &[u8], why: &[u8]) -> Counts
+pub fn broken(rt: &impl Print, c: Counts, what: &[u8], why: &[u8]) -> Counts
     ensures { (result.cases ≡ one_more_of c.cases) × (result.failed ≡ one_more_of c.failed) }
 {
-    print(b"FAILED ");
-    print(what);
-    print(b": ");
-    print(why);
-    print(b"\n");
+    print(rt, b"FAILED ");
+    print(rt, what);
+    print(rt, b": ");
+    print(rt, why);
+    print(rt, b"\n");
     failed(c)
 }
 
 // A line that has not the form of a case.
-pub fn malformed(c: Counts, s: &[u8], fault: Fault) -> Counts
+pub fn malformed(rt: &impl Print, c: Counts, s: &[u8], fault: Fault) -> Counts
     ensures { (result.cases ≡ one_more_of c.cases) × (result.failed ≡ one_more_of c.failed) }
 {
     match fault {
-        Fault::Nothing => broken(c, s, b"nothing is wrong"),
+        Fault::Nothing => broken(rt, c, s, b"nothing is wrong"),
         Fault::Numbers => broken(
+            rt,
             c,
             s,
             b"a number has more than 64 bits, or there are more numbers than 192",
         ),
-        Fault::NoEquals => broken(c, s, b"a bad character, or no '=', after the given numbers"),
+        Fault::NoEquals => broken(
+            rt,
+            c,
+            s,
+            b"a bad character, or no '=', after the given numbers",
+        ),
         Fault::NoText => broken(
+            rt,
             c,
             s,
             b"a bad character, or no '#', after the wanted numbers",
@@ -85,14 +91,14 @@ pub fn malformed(c: Counts, s: &[u8], fault: Fault) -> Counts
 }
 
 // A file that was not read whole, or has no case.
-pub fn unread(c: Counts, name: &[u8], end: End) -> Counts
+pub fn unread(rt: &impl Print, c: Counts, name: &[u8], end: End) -> Counts
     ensures { (result.cases ≡ one_more_of c.cases) × (result.failed ≡ one_more_of c.failed) }
 {
     match end {
-        End::Privileged => broken(c, name, b"has no case"),
-        End::NotOpened => broken(c, name, b"cannot be opened"),
-        End::NotRead => broken(c, name, b"cannot be read"),
-        End::TooLong => broken(c, name, b"is longer than the program's buffer"),
+        End::Privileged => broken(rt, c, name, b"has no case"),
+        End::NotOpened => broken(rt, c, name, b"cannot be opened"),
+        End::NotRead => broken(rt, c, name, b"cannot be read"),
+        End::TooLong => broken(rt, c, name, b"is longer than the program's buffer"),
     }
 }
 
@@ -113,47 +119,47 @@ pub fn same(a: &[u64], b: &[u64]) -> bool
     true
 }
 
-fn print_number(n: u64) {
-    print(b" ");
-    io::print_hex(STDOUT_FILENO, n, 1);
+fn print_number(rt: &impl Print, n: u64) {
+    print(rt, b" ");
+    let _ = print!(rt; "{n:x}");
 }
 
-fn print_numbers(a: &[u64]) {
+fn print_numbers(rt: &impl Print, a: &[u64]) {
     let mut i = 0;
     while i < a.len() {
-        print_number(a[i]);
+        print_number(rt, a[i]);
         i += 1;
     }
 }
 
 // The given numbers as the file has them, and the text.
-fn print_label(s: &[u8], equals: usize, text: usize)
+fn print_label(rt: &impl Print, s: &[u8], equals: usize, text: usize)
     requires { (equals ≤ length s.now) × (text ≤ length s.now) }
 {
-    print(&s[0..equals]);
-    print(&s[text..]);
+    print(rt, &s[0..equals]);
+    print(rt, &s[text..]);
 }
 
-fn print_ok(s: &[u8], equals: usize, text: usize)
+fn print_ok(rt: &impl Print, s: &[u8], equals: usize, text: usize)
     requires { (equals ≤ length s.now) × (text ≤ length s.now) }
 {
-    print(b"ok ");
-    print_label(s, equals, text);
-    print(b"\n");
+    print(rt, b"ok ");
+    print_label(rt, s, equals, text);
+    print(rt, b"\n");
 }
 
-fn print_failed(s: &[u8], equals: usize, text: usize, got: &[u64])
+fn print_failed(rt: &impl Print, s: &[u8], equals: usize, text: usize, got: &[u64])
     requires { (equals ≤ length s.now) × (text ≤ length s.now) }
 {
-    print(b"FAILED ");
-    print_label(s, equals, text);
-    print(b": got");
-    print_numbers(got);
-    print(b"\n");
+    print(rt, b"FAILED ");
+    print_label(rt, s, equals, text);
+    print(rt, b": got");
+    print_numbers(rt, got);
+    print(rt, b"\n");
 }
 
 // A case that was run: it passed exactly if the numbers that came out are the wanted ones.
-pub fn judged(c: Counts, s: &[u8], at: Line, wanted: &[u64], got: &[u64]) -> Counts
+pub fn judged(rt: &impl Print, c: Counts, s: &[u8], at: Line, wanted: &[u64], got: &[u64]) -> Counts
     requires { (at.equals ≤ length s.now) × (at.text ≤ length s.now) }
     ensures cases_value { result.cases ≡ one_more_of c.cases }
     ensures failed_value { wanted.now ≡ got.now → result.failed ≡ c.failed }
@@ -162,10 +168,10 @@ pub fn judged(c: Counts, s: &[u8], at: Line, wanted: &[u64], got: &[u64]) -> Cou
     let equals = at.equals;
     let text = at.text;
     if same(wanted, got) {
-        print_ok(s, equals, text);
+        print_ok(rt, s, equals, text);
         return passed(c);
     }
-    print_failed(s, equals, text, got);
+    print_failed(rt, s, equals, text, got);
     failed(c)
 }
 
@@ -185,47 +191,62 @@ fn next_name(names: &[u8], at: usize) -> usize
 }
 
 // A number that is not the wanted one; of one that is, nothing.
-fn print_difference(name: &[u8], wanted: u64, got: u64) {
+fn print_difference(rt: &impl Print, name: &[u8], wanted: u64, got: u64) {
     if wanted != got {
-        print(b" ");
-        print(name);
-        print(b"0x");
-        io::print_hex(STDOUT_FILENO, got, 1);
-        print(b" (wanted 0x");
-        io::print_hex(STDOUT_FILENO, wanted, 1);
-        print(b")");
+        print(rt, b" ");
+        print(rt, name);
+        print(rt, b"0x");
+        let _ = print!(rt; "{got:x}");
+        print(rt, b" (wanted 0x");
+        let _ = print!(rt; "{wanted:x}");
+        print(rt, b")");
     }
 }
 
 // Each number that is not the wanted one, by its name. Each name in `names` has a blank after it. Answers where the names that
 // are left start.
-pub fn differences(names: &[u8], wanted: &[u64], got: &[u64]) -> usize
+pub fn differences(rt: &impl Print, names: &[u8], wanted: &[u64], got: &[u64]) -> usize
     ensures { result ≤ length names.now }
 {
     let mut i = 0;
     let mut at = 0;
     while i < wanted.len() {
         let next = next_name(names, at);
-        print_difference(&names[at..next], wanted[i], row::at(got, i));
+        print_difference(rt, &names[at..next], wanted[i], row::at(got, i));
         at = next;
         i += 1;
     }
     at
 }
 
-fn print_differing(s: &[u8], text: usize, names: &[u8], wanted: &[u64], got: &[u64])
+fn print_differing(
+    rt: &impl Print,
+    s: &[u8],
+    text: usize,
+    names: &[u8],
+    wanted: &[u64],
+    got: &[u64],
+)
     requires { text ≤ length s.now }
 {
-    print(b"FAILED ");
-    print(&s[text..]);
-    print(b": got");
-    differences(names, wanted, got);
-    print(b"\n");
+    print(rt, b"FAILED ");
+    print(rt, &s[text..]);
+    print(rt, b": got");
+    differences(rt, names, wanted, got);
+    print(rt, b"\n");
 }
 
 // A case of many numbers that was run, as `judged`; printed are its text and, by name, the numbers that are
 // not the wanted ones (`differences`).
-pub fn compared(c: Counts, s: &[u8], at: Line, names: &[u8], wanted: &[u64], got: &[u64]) -> Counts
+pub fn compared(
+    rt: &impl Print,
+    c: Counts,
+    s: &[u8],
+    at: Line,
+    names: &[u8],
+    wanted: &[u64],
+    got: &[u64],
+) -> Counts
     requires { at.text ≤ length s.now }
     ensures cases_value { result.cases ≡ one_more_of c.cases }
     ensures failed_value { wanted.now ≡ got.now → result.failed ≡ c.failed }
@@ -233,20 +254,19 @@ pub fn compared(c: Counts, s: &[u8], at: Line, names: &[u8], wanted: &[u64], got
 {
     let text = at.text;
     if same(wanted, got) {
-        print_ok(s, 0, text);
+        print_ok(rt, s, 0, text);
         return passed(c);
     }
-    print_differing(s, text, names, wanted, got);
+    print_differing(rt, s, text, names, wanted, got);
     failed(c)
 }
 
 // The last line.
-pub fn total(c: Counts) -> Counts
+pub fn total(rt: &impl Print, c: Counts) -> Counts
     ensures { result ≡ c }
 {
-    io::print_decimal(STDOUT_FILENO, c.cases);
-    print(b" cases, ");
-    io::print_decimal(STDOUT_FILENO, c.failed);
-    print(b" failed\n");
+    let cases = c.cases;
+    let failures = c.failed;
+    let _ = println!(rt; "{cases} cases, {failures} failed");
     c
 }

@@ -33,3 +33,6 @@ pub overflow_add-result-then-ps-j : goal.overflow_add-result-then-ps-j
 overflow_add-result-then-ps-j c =
     let h = (hit ((goal.at.overflow_add-result-then-ps-j c).Then-ps-j)).0 in
     record { fits = omega (arith, h, c.requires.0) }
+
+pub returns-then-ps-j-clause-place : goal.returns-then-ps-j-clause-place
+returns-then-ps-j-clause-place c = λ e. (hit ((goal.at.returns-then-ps-j-clause-place c).Then-ps-j)).1

@@ -1,0 +1,22 @@
+-- `run_form::access` meets its contract: an access an arm. Assumes nothing.
+use mathlib.Core.Path.{refl, ◌∙◌}
+use Rattle.word.proofs.Choices.{first, second}
+use Rattle.step_transfer.specs.declared.access.Gate.TheVariants.{Open, Off}
+use Rattle.run_form.proofs.Laws.{off_means, open_means}
+use Rattle.run_form.proofs.access.Goals as goal
+
+pub returns-then-on : goal.returns-then-on
+returns-then-on c word pc s q =
+    open_means word pc s c.make-then-on.ensures c.in-Push.is refl (first s.shadow Open Off (q ∙ c.if-on.true))
+
+pub returns-then-on-2 : goal.returns-then-on-2
+returns-then-on-2 c word pc s q =
+    open_means word pc s c.make-then-on-2.ensures c.in-Pop.is refl (first s.shadow Open Off (q ∙ c.if-on-2.true))
+
+pub returns-else-on : goal.returns-else-on
+returns-else-on c word pc s q =
+    off_means word pc s c.zero.ensures _ _ _ c.in-Push.is (second s.shadow Open Off (q ∙ c.if-on.false))
+
+pub returns-else-on-2 : goal.returns-else-on-2
+returns-else-on-2 c word pc s q =
+    off_means word pc s c.zero-in-Pop.ensures _ _ _ c.in-Pop.is (second s.shadow Open Off (q ∙ c.if-on-2.false))
