@@ -228,8 +228,8 @@ pub fn shadow(
     map: &[u64],
 ) -> Tried
     requires { length mem.old ≤ 2 ^ 20 }
-    ensures { Does result.done (execute_of (system_of w (fields_of w)) w x.old pc (SSP of rest.old) k.setting
-        mem.old map.now) x.old rest.old mem.old result.pc x.old rest.new
+    ensures { Does result.done (execute_of (system_of w (fields_of w)) w x.now pc (SSP of rest.old) k.setting
+        mem.old map.now) x.now rest.old mem.old result.pc x.now rest.new
         mem.new }
 {
     let c = k.setting.control;

@@ -1,0 +1,20 @@
+-- `run_moves::data::push` meets its contract: a place, or its fault. Assumes nothing.
+use mathlib.Core.Path.{refl, sym, ◌∙◌}
+use Rattle.address_place.proofs.Reach.{place_within, place_index}
+use Rattle.step_transfer.specs.Access.{done_of}
+use Rattle.run_done.proofs.Ways.{placed}
+use Rattle.run_moves.proofs.data.push.Goals as goal
+
+pub index-requires : goal.index-requires
+index-requires c = (place_within _ _ _ _ _ _ _ (sym c.translate.ensures ∙ c.in-At.is)).0
+
+pub store-requires : goal.store-requires
+store-requires c = rw c.index.ensures (place_index _ _ _ _ _ _ _
+    (sym c.translate.ensures ∙ c.in-At.is))
+
+pub returns-in-At : goal.returns-in-At
+unfolding done_of
+returns-in-At c =
+    let top = c.difference-top.ensures in
+    λ x. placed _ _ _ _ _ _ _ _ _ _ _ _ _ _ _ (sym (rw top at c.translate.ensures) ∙ c.in-At.is)
+    (c.sum.ensures, refl, rw top, rw c.index.ensures at c.store.ensures)

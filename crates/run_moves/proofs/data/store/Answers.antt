@@ -1,0 +1,19 @@
+-- `run_moves::data::store` meets its contract: the access of a store. Assumes nothing.
+use Rattle.decode_base.specs.Base.{decode_store_of}
+use Rattle.step_transfer.specs.Access.{access_of, passed_of}
+use Rattle.step_meaning.specs.Instruction.{execute_of}
+use Rattle.run_done.proofs.Ways.{read, does_as}
+use Rattle.run_done.proofs.Parts.{store_parts}
+use Rattle.run_moves.proofs.data.store.Goals as goal
+
+pub returns-in-Store : goal.returns-in-Store
+unfolding execute_of access_of passed_of
+returns-in-Store c =
+    let told = read decode_store_of c.split.ensures c.imm_s.ensures c.store.ensures c.in-Memory.is in
+    λ ssp rest. does_as c.store_at.result _ _ _ rest _ _ rest _ (rw (
+      told,
+      c.in-Store.is,
+      c.reg-in-Store.ensures,
+      c.sum-a.ensures,
+      c.reg.ensures,
+    ) (store_parts _ _ _ _ _ _ _ _)) (c.store_at.ensures _ rest)
