@@ -2,7 +2,7 @@
 use mathlib.Core.Path.{refl, ◌∙◌}
 use Rattle.word.proofs.Choices.{first, second}
 use Rattle.step_transfer.specs.declared.access.Gate.TheVariants.{Open, Off}
-use Rattle.run_form.proofs.Laws.{off_means, open_means}
+use Rattle.run_form.proofs.Laws.{off_means, open_means, load_means}
 use Rattle.run_form.proofs.access.Goals as goal
 
 pub returns-then-on : goal.returns-then-on
@@ -12,6 +12,12 @@ returns-then-on c word pc s q =
 pub returns-then-on-2 : goal.returns-then-on-2
 returns-then-on-2 c word pc s q =
     open_means word pc s c.make-then-on-2.ensures c.in-Pop.is refl (first s.shadow Open Off (q ∙ c.if-on-2.true))
+
+pub returns-in-Load : goal.returns-in-Load
+returns-in-Load c word pc s q = load_means word pc s c.make.ensures c.in-Load.is c.load.ensures refl
+
+pub returns-in-Store : goal.returns-in-Store
+returns-in-Store c word pc s q = open_means word pc s c.make-in-Store.ensures c.in-Store.is c.store.ensures refl
 
 pub returns-else-on : goal.returns-else-on
 returns-else-on c word pc s q =
