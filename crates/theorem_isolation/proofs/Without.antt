@@ -139,7 +139,7 @@ computed = record {
   above_other = refl;
 }
 
--- "from the same user_mode hart"
+-- "from the same user-mode hart"
 pub needs_user : Sv39 supervisor × Agree supervisor × Breaks supervisor
 needs_user = (
   refl,

@@ -1,7 +1,7 @@
 -- What a user program can't see. This file is the statement and nothing else; proofs/Isolation.antt proves it,
 -- docs/ISOLATION.md explains it, and it is rules 13.11 to 13.15 of docs/HART.md. The user's words:
 --
---   Take two runs from the same user_mode hart with Sv39 on and the same map, with memories of the same length that differ only in
+--   Take two runs from the same user-mode hart with Sv39 on and the same map, with memories of the same length that differ only in
 --   frames that no valid entry with its U bit names. Up to and including the first trap the harts, counts and trap answers are the
 --   same, and every byte of the named frames is the same; the other frames keep their own bytes.
 --
@@ -81,7 +81,7 @@ session_of (c ∷ cs) h m map =
     (session_of cs (call_of c h m map).answer.hart (call_of c h m map).memory map)
 
 module _ (Valid : Control → (e : ℕ) → Type 0) (map : List ℕ) (h : Hart) (m n : List ℕ) where
-  -- "from the same user_mode hart with Sv39 on and the same map, with memories .."; docs/ISOLATION.md says what
+  -- "from the same user-mode hart with Sv39 on and the same map, with memories .."; docs/ISOLATION.md says what
   -- page tables in memory, or more in an answer, would add here
   pub record IsolationStarts : Type 0 where
     pub user : MODE of h.words ≡ 0

@@ -271,7 +271,7 @@ needs-no-pointer-write = (
   (λ p. absurd (omega (arith, p.pointer))),
 )
 
--- "both shadow_stack enables on": already at the start a pop-check would not trap, where its register is not what stands there
+-- "both shadow-stack enables on": already at the start a pop-check would not trap, where its register is not what stands there
 pub needs-senvcfg :
     Accepted map₀ disabled × InUser disabled × Sv39 disabled × Menvcfg disabled × Once map₀ disabled
     × Stretch map₀ disabled memory₀ [] disabled memory₀ false

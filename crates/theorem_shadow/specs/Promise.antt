@@ -1,7 +1,7 @@
 -- The shadow stack keeps its promise. This file is the statement and nothing else; proofs/Demand.antt proves it, docs/SHADOW.md
 -- explains it, and it is rules 13.2 to 13.8 of docs/HART.md. The user's words:
 --
---   Start in user mode with Sv39 and both shadow_stack enables on, and let each frame of a valid shadow page stand in one entry of
+--   Start in user mode with Sv39 and both shadow-stack enables on, and let each frame of a valid shadow page stand in one entry of
 --   the map only. Take any stretch of steps under one map, each from the hart and memory that the last one left, up to and
 --   including the first trap, without a shadow swap and without a write of the shadow pointer by a CSR instruction. Then the
 --   pointer has moved by 8 times completed pops less pushes, modulo 2^64; each shadow byte is what the latest push there wrote, else
@@ -56,7 +56,7 @@ StandsOnce c map =
     (i j : ℕ) → Entry map i → Entry map j → ValidShadow c (leaf_at map i) → ValidLeaf c (leaf_at map j)
     → frame_of (leaf_at map j) ≡ frame_of (leaf_at map i) → j ≡ i
 
--- "Start in user mode with Sv39 and both shadow_stack enables on", from a state that refusals 1 to 3 do not apply to
+-- "Start in user mode with Sv39 and both shadow-stack enables on", from a state that refusals 1 to 3 do not apply to
 pub record ShadowStarts (map : List ℕ) (h₀ : Hart) (m₀ : List ℕ) : Type 0 where
   pub accepted : refusal_of h₀ m₀ map ≡ 0
   pub user : MODE of h₀.words ≡ 0
