@@ -3,10 +3,10 @@
 The checker's complaints are of three kinds here.
 - A fact: two types, numbers or terms that differ, an inequality with a counterexample, a promise that is not proved. FACTS has the
   wordings; a complaint that none of them fits counts as no fact, so that a new wording is looked at before it is let pass.
-- Shape: a name, a field or a path that does not exist, or a text that cannot be read. What else the checker says of that file comes
-  of it, and counts for nothing: a proof whose paths are off by one compares the wrong things.
+- Shape: a name, a field or a path that does not exist, or a text that cannot be read. What else the checker says of that declaration
+  comes of it, and counts for nothing; and where it is said of no declaration, what it says of that file.
 - A rewrite that finds nothing to rewrite. It is no fact, since the edit may only have moved what the proof looks for; but it says
-  nothing against the other complaints about its file.
+  nothing against the other complaints.
 """
 import dataclasses
 import re
@@ -32,8 +32,10 @@ SHAPE = re.compile(
             r"has no field",
             r"is not in scope",
             r"has no `[^`]*` that can be named",
+            r"no module, record or data type",
             r"does not define it",
             r"is still open",
+            r"is no name|operand is missing|expected the end|cannot continue",
             r"error\[",
         ]
     )
@@ -41,6 +43,8 @@ SHAPE = re.compile(
 # A complaint starts with its place; the lines below it that are indented belong to it. Only its first line tells a shape: below it may
 # stand that a name "is not in scope here, so what is shown does not paste back".
 COMPLAINT = re.compile(r"^(?:note: )?(?P<file>[^\s:]+):(?P<place>\d+:\d+): (?P<text>(?:error|it is not proved that).*(?:\n[ \t]+.*)*)", re.M)
+# What is said of a declaration begins with its name.
+DECLARATION = re.compile(r"(`[^`]+`): ")
 PARTS = re.compile(r"(?:.*/)?((?:src|specs|proofs)/.*)")
 
 
@@ -68,8 +72,20 @@ def complaints(log):
 
 def facts(said):
     """Those of the complaints that refuse a fact."""
-    unfit = {file for file, _, text in said if SHAPE.search(text.split("\n")[0])}
-    return [(file, place, text) for file, place, text in said if file not in unfit and FACTS.search(text)]
+    unfit = {(file, declaration(text)) for file, _, text in said if SHAPE.search(text.split("\n")[0])}
+    fits = lambda file, text: not unfit & {(file, None), (file, declaration(text))}
+    return [(file, place, text) for file, place, text in said if fits(file, text) and FACTS.search(text)]
+
+
+def declaration(text):
+    found = DECLARATION.match(text)
+    return found and found[1]
+
+
+def said_by_rt(line):
+    """Whether rt ci's line of an edit, which has the first of the checker's complaints, or its beginning, names a fact."""
+    found = re.fullmatch(r"refused, as it must be: (.*)", line)
+    return bool(found and facts(list(complaints(found[1]))))
 
 
 def judged(log, status=1, about=None):

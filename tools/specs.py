@@ -15,10 +15,8 @@ Import = collections.namedtuple("Import", "crate part file names alias line")
 
 MARKS = ("abbrev", "unfoldable", "pub")
 STARTS = re.compile(r"^(\s*)((?:(?:abbrev|unfoldable|pub) )*)((?:data|record) )?([^\s(){}:;,]+)(?=\s|$)")
-SPLIT = re.compile(r"[\s(){}\[\]⌜⌝;,]+")
-USE = re.compile(
-    r"^(?:ghost )?use Rattle·(\w+?)(?:·(?:specs|proofs))?\.(specs|proofs)\.([\w.\-]+?)(?:\.\{([^}]*)\}| as ([\w\-]+))?;?[ \t]*$", re.M
-)
+SPLIT = re.compile(r"[\s(){}\[\];,]+")
+USE = re.compile(r"^(?:ghost )?use Rattle\.(\w+)\.(specs|proofs)\.([\w.\-+]+?)(?:\.\{([^}]*)\}| as ([\w\-]+))?;?[ \t]*$", re.M)
 
 
 def files(part, ending="antt"):
@@ -33,7 +31,7 @@ def module_of(path):
 
 def order():
     """The crates in crates.txt's order."""
-    found = re.findall(r"^(\w+):", pathlib.Path("crates.txt").read_text(), re.M)
+    found = re.findall(r"^(\w+)(?: +staticlib)?:", pathlib.Path("crates.txt").read_text(), re.M)
     return {crate: at for at, crate in enumerate(found)}
 
 
@@ -44,9 +42,11 @@ def bare(text, path):
 
 
 def imports(text):
-    """What a file uses of specs and proofs of crates, a `use` line each; names are pairs of what it is called there and here."""
+    """What a file uses of specs and proofs of crates of the tree, a `use` line each; names are pairs of what it is called there and here."""
     for found in USE.finditer(text):
         crate, part, file, listed, alias = found.groups()
+        if not pathlib.Path("crates", crate).is_dir():
+            continue
         pairs = [one.split(" as ") for one in re.split(r"\s*,\s*", (listed or "").strip()) if one]
         names = [(pair[0].strip(), pair[-1].strip()) for pair in pairs]
         yield Import(crate, part, file, names, alias, text.count("\n", 0, found.start()) + 1)
@@ -149,9 +149,8 @@ def named(text, names, aliases):
         elif first in names:
             yield names[first]
     for name, one in names.items():
-        if name.strip("_") != name or "_" in name:
-            if all(sign in words for sign in name.split("_") if sign):
-                yield one
+        if "◌" in name and all(sign in words for sign in name.split("◌") if sign):
+            yield one
 
 
 @functools.cache

@@ -1,6 +1,4 @@
-// The decoder's verdict as a number, for who compares decoders word by word (include/sporhulma.h).
-//
-// A static library of its own: the compiler puts `decode` into the run's loop only while that is its one caller.
+// The decoder's verdict as a number, for who compares decoders word by word. C calls it through `family_c`.
 #![tactic(auto)]
 
 ghost use Rattle.std.specs.Prelude.{◌≡◌};
@@ -50,8 +48,7 @@ fn of_instruction(i: Instruction) -> u64
 }
 
 // The family of the instruction that a word names, or 0.
-#[unsafe(no_mangle)]
-pub extern "C" fn sporhulma_family(word: u32) -> u64
+pub fn sporhulma_family(word: u32) -> u64
     ensures { result ≡ family_of (decode_of word) }
 {
     of_instruction(decode(word))
