@@ -34,7 +34,7 @@ module _ (j : Joined-nums-k) where
       let s = j.args.s in
       let map = j.args.map.now in
       elim j.if-nums-k.branch [
-        then-nums-k+then-e w ↦
+        | then-nums-k+then-e w ↦
             made_ready l.nums l.bytes l.ops l.pc s l.mem map w.enter-e.result j.if-nums-k.nums j.if-nums-k.bytes j.if-nums-k.ops l.invariant.5
             w.enter-e.ensures.lengths.1 l.invariant.6 l.invariant.8 w.if-e.true w.enter-e.ensures.read (w.nums-is ∙ w.enter-e.ensures.nums)
             (record {
@@ -95,19 +95,18 @@ module _ (a : After-act-t) where
         a.number.ensures (omega arith) (omega arith) a.act-t.result.done a.act-t.result.pc x' w' m' a.act-t.ensures.does
 
 pub loop-left-init : goal.loop-left-init
-loop-left-init c =
-    (
-      refl,
-      c.requires.1,
-      sym c.requires.2,
-      c.requires.3,
-      c.requires.4,
-      length-replicate {A = ℕ} 12288 none,
-      length-replicate 4096 op.Left,
-      empty c.args.s.control _ _,
-      blank _ _ _ _ _,
-      start _ _ _ _ _,
-    )
+loop-left-init c = (
+  refl,
+  c.requires.1,
+  sym c.requires.2,
+  c.requires.3,
+  c.requires.4,
+  length-replicate {A = ℕ} 12288 none,
+  length-replicate 4096 op.Left,
+  empty c.args.s.control _ _,
+  blank _ _ _ _ _,
+  start _ _ _ _ _,
+)
 
 pub added-pc-requires : goal.added-pc-requires
 added-pc-requires c =
@@ -177,8 +176,7 @@ pub handled-requires : goal.handled-requires
 handled-requires c =
     let j = (goal.at.handled-requires c).Joined-nums-k in
     let a = (goal.at.handled-requires c).After-act-t in
-    let i = c.loop-left in
-    (
+    let i = c.loop-left in (
       omega arith,
       rw (len a) (reading (f j) (index_at c.if-nums-k.nums (k j)) i.pc c.args.s i.mem c.args.map.now (read j)).0,
     )

@@ -43,6 +43,7 @@ returns-in-MopR c word s p q = mop_means word _ s c.zero-in-MopR.ensures c.in-Mo
 
 pub returns-in-MopRr : goal.returns-in-MopRr
 returns-in-MopRr c word s p q = mop2_means word _ s c.zero-in-MopRr.ensures c.in-MopRr.is
+
 pub returns-else-expected : goal.returns-else-expected
 returns-else-expected c word s p q =
     let exempt = rw c.needs_no_pad.ensures at (sym c.expected.ensures ∙ c.if-expected.false) in

@@ -31,7 +31,7 @@ returns-then-w c = rw (← missed _ (zimops c.args.w c.args.f) c.in_default.in_d
 pub returns-else-w : goal.returns-else-w
 unfolding zimop_of
 returns-else-w c = rw (
-      ← missed _ (zimops c.args.w c.args.f) c.in_default.in_default-own.rest,
-      ne_eqb _ _ c.if-w.false,
-      c.mop-else-w.ensures,
-    )
+  ← missed _ (zimops c.args.w c.args.f) c.in_default.in_default-own.rest,
+  ne_eqb _ _ c.if-w.false,
+  c.mop-else-w.ensures,
+)

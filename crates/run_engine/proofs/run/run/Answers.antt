@@ -3,15 +3,14 @@ use Prim.Native.Nat.{ℕ, ◌-◌, ◌<◌, ◌≤◌}
 use native.Mathlib.Omega.{arith}
 use Rattle.step_meaning.specs.declared.Source.TheVariants.{Fetch}
 use Rattle.step_hart.specs.Hart.{hart}
+use Rattle.step_hart.specs.Run.{run_from}
 use Rattle.step_hart.specs.declared.Hart.{Hart}
-use Rattle.run_engine.proofs.Parts.{told_within, ends_first, ends_later}
+use Rattle.run_engine.proofs.Parts.{Tells, told_within, ends_first, ends_there, ends_later}
 use Rattle.run_engine.proofs.run.run.Goals as goal
-use Rattle.run_engine.proofs.run.run.Goals.{After-long-u, After-short-t}
+use Rattle.run_engine.proofs.run.run.Goals.{After-short-t}
 
 -- after the first steps: how many they are, and where they ended
 module _ (o : After-short-t) where
-
-
   abbrev steps : ℕ
   steps = o.few-first.result
 
@@ -19,32 +18,34 @@ module _ (o : After-short-t) where
   stands = hart o.args.x.now o.args.w.now
 
   abbrev ran : Hart
-  ran = hart o.short-t.last.x o.short-t.last.w
+  ran = hart o.short-t.new.x o.short-t.new.w
 
   le : steps ≤ o.args.budget
   le = o.few-first.ensures.0
 
--- after the others
-module _ (u : After-long-u) where
-
-
-  some : 0 < steps short
-  some = (given short).few.ensures.2 (omega (arith, le short, u.if-budget-first.left)) (omega arith)
-
-  fewer : u.long-u.result.count ≤ (first short).args.budget - steps short
-  fewer =
-      told_within ((first short).args.budget - steps short) Fetch (ran short) u.short-t.last.mem (first short).args.map.now
-      u.long-u.result u.long-u.ensures.answer
+  tells : Tells (run_from o.args.source steps stands o.args.mem.now o.args.map.now) o.short-t.result ran o.short-t.new.mem
+  tells = let e = o.short-t.ensures in (e.answer, (e.hart, e.memory))
 
 pub returns-then-t : goal.returns-then-t
 returns-then-t c =
-    let a = (first o).args in
-    ends_first a.source a.budget (steps o) (stands o) a.mem.now a.map.now (le o) c.short-t.result (ran o) c.short-t.new.mem
-    c.short-t.ensures c.if-t.true
+    let a = c.args in
+    let o = (goal.at.returns-then-t c).After-short-t in
+    let all = ends_first a.source a.budget (steps o) (stands o) a.mem.now a.map.now (le o) c.short-t.result (ran o) c.short-t.new.mem
+    (tells o) c.if-t.true in
+    record { answer = all.0; hart = all.1.0; memory = all.1.1 }
+
+pub overflow_add-first : goal.overflow_add-first
+overflow_add-first c =
+    let o = (goal.at.overflow_add-first c).After-short-t in
+    let n = told_within (c.args.budget - steps o) Fetch (ran o) c.short-t.new.mem c.args.map.now c.long-u.result c.long-u.ensures.answer in
+    record { fits = omega (arith, n, le o, c.ranges.budget.fits) }
 
 pub returns : goal.returns
 returns c =
-    let o = short u in
-    let a = (first o).args in
-    ends_later a.source a.budget (steps o) (stands o) a.mem.now a.map.now (le o) o.short.result (ran o) o.short.last.1.1.1.0
-    o.short.ensures (some u) (other u).before.if1.false c.long-u.result c.report.result _ _ c.long-u.ensures c.report.ensures
+    let a = c.args in
+    let o = (goal.at.returns c).After-short-t in
+    let some : 0 < steps o = c.few-first.ensures.2 (omega (arith, le o, c.if-budget-first.false)) (omega arith) in
+    let all = ends_later a.source a.budget (steps o) (stands o) a.mem.now a.map.now (le o) c.short-t.result (ran o) c.short-t.new.mem
+    (tells o) some c.if-t.false c.long-u.result c.report.result _ _ (c.long-u.ensures.answer, (c.long-u.ensures.hart, c.long-u.ensures.memory))
+    c.report.ensures in
+    record { answer = all.0; hart = all.1.0; memory = all.1.1 }

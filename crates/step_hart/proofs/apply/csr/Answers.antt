@@ -15,8 +15,8 @@ returns-then-writes c =
       registers = refl;
       words = refl;
       setting = λ z.
-            setting_kept PC _ _ refl
-            ∙ setting_kept (csr_slot_of n) _ w (ap switches (sym c.slot.ensures.0) ∙ sym c.switched.ensures ∙ z);
+          setting_kept PC _ _ refl
+          ∙ setting_kept (csr_slot_of n) _ w (ap switches (sym c.slot.ensures.0) ∙ sym c.switched.ensures ∙ z);
     }
 
 pub returns : goal.returns

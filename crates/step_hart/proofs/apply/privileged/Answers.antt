@@ -11,15 +11,15 @@ returns-in-Csr c = rw c.in-Csr.is c.csr.ensures
 pub returns-in-Mret : goal.returns-in-Mret
 unfolding privileged_of
 returns-in-Mret c = rw c.in-Mret.is record {
-      registers = refl;
-      words = c.mret.ensures;
-      setting = λ z. absurd (true≢false z);
-    }
+  registers = refl;
+  words = c.mret.ensures;
+  setting = λ z. absurd (true≢false z);
+}
 
 pub returns-in-Sret : goal.returns-in-Sret
 unfolding privileged_of
 returns-in-Sret c = rw c.in-Sret.is record {
-      registers = refl;
-      words = c.sret.ensures;
-      setting = λ z. absurd (true≢false z);
-    }
+  registers = refl;
+  words = c.sret.ensures;
+  setting = λ z. absurd (true≢false z);
+}
