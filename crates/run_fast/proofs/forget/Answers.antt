@@ -1,5 +1,5 @@
 -- `run_fast::forget` meets its contract: a turn empties the two entries of a quarter. Assumes nothing.
-use Prim.Native.Nat.{◌-◌, ◌<◌}
+use Prim.Native.Nat.{◌<◌}
 use native.Mathlib.Omega.{arith}
 use Rattle.run_fast.proofs.Cleared.{fewer_both, quarter_clear}
 use Rattle.run_fast.proofs.forget.Goals as goal

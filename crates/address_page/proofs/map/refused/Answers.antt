@@ -1,6 +1,5 @@
 -- `address_page::map::refused` meets its contract: what is wrong from word i on is what is wrong with the map. Assumes nothing.
 use mathlib.Core.Path.{refl, sym, ◌∙◌}
-use Prim.Native.Nat.{◌-◌}
 use native.Mathlib.Omega.{arith}
 use Rattle.address_page.proofs.Entries.{refused_odd, refused_long, refused_start, wrong_end, wrong_low, wrong_large, wrong_next}
 use Rattle.address_page.proofs.map.refused.Reads as reads

@@ -1,5 +1,5 @@
 -- `address_place::window::page` meets its contract: its first address decides a page. Assumes nothing.
-use mathlib.Core.Path.{◌≡◌, sym, ◌∙◌}
+use mathlib.Core.Path.{◌≡◌, sym}
 use Prim.Native.Nat.{◌-◌, ◌%◌}
 use native.Mathlib.Omega.{arith}
 use Rattle.isa.specs.declared.Width.TheVariants.{Word}

@@ -1,5 +1,4 @@
 use mathlib.Core.Path.{◌≡◌}
-use Prim.Native.Nat.{◌-◌}
 use lib.ListN.{length}
 use Rattle.step_meaning.specs.declared.Source.TheVariants.{Fetch}
 use Rattle.step_hart.specs.Hart.{hart}

@@ -5,7 +5,7 @@ use Rattle.step_meaning.specs.declared.Source.TheVariants.{Fetch}
 use Rattle.step_hart.specs.Hart.{hart}
 use Rattle.step_hart.specs.Run.{run_from}
 use Rattle.step_hart.specs.declared.Hart.{Hart}
-use Rattle.run_engine.proofs.Parts.{Tells, told_within, ends_first, ends_there, ends_later}
+use Rattle.run_engine.proofs.Parts.{Tells, told_within, ends_first, ends_later}
 use Rattle.run_engine.proofs.run.run.Goals as goal
 use Rattle.run_engine.proofs.run.run.Goals.{After-short-t}
 

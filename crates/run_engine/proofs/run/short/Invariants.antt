@@ -1,5 +1,4 @@
 use mathlib.Core.Path.{◌≡◌}
-use Prim.Native.Nat.{◌-◌}
 use lib.ListN.{length}
 use Rattle.csr_words.specs.Setting.{setting_of}
 use Rattle.step_meaning.specs.Context.{Knows}
