@@ -5,9 +5,7 @@ use mathlib.Core.Path.{◌≡◌, refl, sym, ◌∙◌}
 use Prim.Native.Nat.{ℕ, ◌%◌, ◌^◌, ◌≤◌}
 use native.Mathlib.Omega.{arith}
 use lib.ListN.{length, length-replicate, get_or}
-use Rattle.step_meaning.specs.Instruction.{next_of}
 use Rattle.step_meaning.specs.declared.Source.TheVariants.{Fetch}
-use Rattle.csr_setting.specs.declared.Setting.{Setting}
 use Rattle.step_hart.proofs.Turns.{start, again}
 use Rattle.run_pages.proofs.Kept.{empty}
 use Rattle.run_form.specs.declared.Form.{Form}
