@@ -16,14 +16,14 @@ pub returns-then-n-eq0 : goal.returns-then-n-eq0
 returns-then-n-eq0 c =
     let a = c.args in
     let run : Run = run_from a.source a.budget (hart a.x.now a.rest.now) a.mem.now a.map.now in
-    let (answer, (left, memory)) = c.run-t.ensures in
+    let ran = c.run-t.ensures in
     rw (taken a.source a.budget a.x.now a.rest.now a.mem.now a.map.now
     (sym c.run_refusal-n.ensures ∙ c.if-n-eq0.true)) record {
       result = refl;
-      registers = ap (λ (h : Hart). h.x) left;
-      others = ap (λ (h : Hart). h.words) left;
-      memory = memory;
-      answer = told run c.run-t.result c.flag.result answer c.flag.ensures;
+      registers = ap (λ (h : Hart). h.x) ran.hart;
+      others = ap (λ (h : Hart). h.words) ran.hart;
+      memory = ran.memory;
+      answer = told run c.run-t.result c.flag.result ran.answer c.flag.ensures;
     }
 
 pub returns : goal.returns
