@@ -19,6 +19,6 @@ returns-then-n-eq0 c =
 pub returns : goal.returns
 unfolding run_call_of
 returns c = rw (c.refused.ensures, ← c.run_refusal-n.ensures, ne_eqb _ _ c.if-n-eq0.false) record {
-      answer = refl;
-      memory = refl;
-    }
+  answer = refl;
+  memory = refl;
+}
