@@ -9,11 +9,11 @@ pub row_1 : mask_of 7 true 0xABFFFFFF12345678 ≡ 0xFFFFFFFF12345678
 unfolding mask_of
 row_1 = refl
 
-pub row_2 : mask_of 7 false 0xABFFFFFF12345678 ≡ 0x01_ffffff12345678
+pub row_2 : mask_of 7 false 0xABFFFFFF12345678 ≡ 0x01FFFFFF12345678
 unfolding mask_of
 row_2 = refl
 
-pub row_3 : mask_of 16 false 0xABFFFFFF12345678 ≡ 0x0000_ffff12345678
+pub row_3 : mask_of 16 false 0xABFFFFFF12345678 ≡ 0x0000FFFF12345678
 unfolding mask_of
 row_3 = refl
 

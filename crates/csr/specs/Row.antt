@@ -7,7 +7,7 @@ use Rattle.csr.specs.declared.Csr.{Csr}
 use Rattle.csr.specs.declared.Csr.TheVariants.{Ssp, Sstatus, Stvec, Senvcfg, Sscratch, Sepc, Scause, Stval, Satp, Mstatus, Medeleg, Mtvec}
 use Rattle.csr.specs.declared.Csr.TheVariants.{Menvcfg, Mscratch, Mepc, Mcause, Mtval, Mseccfg}
 
--- writable mask 0x4_b3_ff
+-- writable mask 0x4B3FF
 abbrev pub medeleg : List Field
 medeleg = row (At 0 (Any 10) ∷ At 12 (Any 2) ∷ bit 15 ∷ bit 18 ∷ [])
 

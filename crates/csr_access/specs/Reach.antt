@@ -15,7 +15,7 @@ addresses permitted =
     0x011 ⇒ pick permitted (To Ssp) Illegal
     ¦ 0x100 ⇒ To Sstatus
     ¦ 0x105 ⇒ To Stvec
-    ¦ 0x10_a ⇒ To Senvcfg
+    ¦ 0x10A ⇒ To Senvcfg
     ¦ 0x140 ⇒ To Sscratch
     ¦ 0x141 ⇒ To Sepc
     ¦ 0x142 ⇒ To Scause
@@ -24,7 +24,7 @@ addresses permitted =
     ¦ 0x300 ⇒ To Mstatus
     ¦ 0x302 ⇒ To Medeleg
     ¦ 0x305 ⇒ To Mtvec
-    ¦ 0x30_a ⇒ To Menvcfg
+    ¦ 0x30A ⇒ To Menvcfg
     ¦ 0x340 ⇒ To Mscratch
     ¦ 0x341 ⇒ To Mepc
     ¦ 0x342 ⇒ To Mcause

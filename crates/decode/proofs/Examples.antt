@@ -15,7 +15,7 @@ pub row_6 : decode_of 0x12345017 ≡ Auipc 0 0x12345000
 unfolding decode_of
 row_6 = refl
 
-pub row_8 : decode_of 0x000500_e7 ≡ Jalr 1 10 0
+pub row_8 : decode_of 0x000500E7 ≡ Jalr 1 10 0
 unfolding decode_of decode_jalr_of
 row_8 = refl
 

@@ -13,7 +13,7 @@ use Rattle.isa.specs.declared.Instruction.TheVariants.{Illegal}
 use Rattle.decode_numbers.specs.Numbers.{numbers_of}
 use Rattle.decode_writer.specs.Pack.{pack_of, system_pack_of, fence_bits}
 use Rattle.word.proofs.Tables.{looked, ◌and◌}
-use Rattle.decode_writer.proofs.Formats.{join, i-back, imm-back, r_back, count_back, shift_back, s-back, b-back}
+use Rattle.decode_writer.proofs.Formats.{join, i_back, imm_back, r_back, count_back, shift_back, s_back, b_back}
 
 -- i is illegal, or its numbers pack to w
 abbrev pub Back : ℕ → Instruction → Type 0
@@ -23,52 +23,52 @@ pub none : (w : ℕ) → Back w Illegal
 none w n = absurd (n refl)
 
 -- fm, pred and succ are bits 31:20
-fence-parts :
+fence_parts :
     (q p s y x : ℕ) → q < 2 ^ 4 → p < 2 ^ 4 → s < 2 ^ 4 → q * 2 ^ 4 + p ≡ y → y * 2 ^ 4 + s ≡ x
     → (0 + fence_bits q p s % 2 ^ 12) % 2 ^ 12 ≡ x
-fence-parts q p s y x hq hp hs e f = omega arith
+fence_parts q p s y x hq hp hs e f = omega arith
 
 module _ (w : ℕ) (h : w < 2 ^ 32) where
   pub jalr_back : 0b1100111 ≡ opcode w → Back w (decode_jalr_of (fields_of w) (imm_i_of w))
   unfolding decode_jalr_of pack_of
   jalr_back o =
       looked (Back w) (bits w 14 12) (jalrs (fields_of w) (imm_i_of w))
-      ((λ e n. imm-back w h 0b1100111 0 o (sym e) refl) and
+      ((λ e n. imm_back w h 0b1100111 0 o (sym e) refl) and
       none w)
 
   pub branch_back : 0b1100011 ≡ opcode w → Back w (decode_branch_of (fields_of w) (imm_b_of w))
   unfolding decode_branch_of pack_of
   branch_back o =
       looked (Back w) (bits w 14 12) (branches (fields_of w) (imm_b_of w))
-      ((λ e n. b-back w h 0b1100011 0b000 o (sym e)) and
-      (λ e n. b-back w h 0b1100011 0b001 o (sym e)) and
-      (λ e n. b-back w h 0b1100011 0b100 o (sym e)) and
-      (λ e n. b-back w h 0b1100011 0b101 o (sym e)) and
-      (λ e n. b-back w h 0b1100011 0b110 o (sym e)) and
-      (λ e n. b-back w h 0b1100011 0b111 o (sym e)) and
+      ((λ e n. b_back w h 0b1100011 0b000 o (sym e)) and
+      (λ e n. b_back w h 0b1100011 0b001 o (sym e)) and
+      (λ e n. b_back w h 0b1100011 0b100 o (sym e)) and
+      (λ e n. b_back w h 0b1100011 0b101 o (sym e)) and
+      (λ e n. b_back w h 0b1100011 0b110 o (sym e)) and
+      (λ e n. b_back w h 0b1100011 0b111 o (sym e)) and
       none w)
 
   pub load_back : 0b0000011 ≡ opcode w → Back w (decode_load_of (fields_of w) (imm_i_of w))
   unfolding decode_load_of pack_of
   load_back o =
       looked (Back w) (bits w 14 12) (loads (fields_of w) (imm_i_of w))
-      ((λ e n. imm-back w h 0b0000011 0b000 o (sym e) refl) and
-      (λ e n. imm-back w h 0b0000011 0b001 o (sym e) refl) and
-      (λ e n. imm-back w h 0b0000011 0b010 o (sym e) refl) and
-      (λ e n. imm-back w h 0b0000011 0b011 o (sym e) refl) and
-      (λ e n. imm-back w h 0b0000011 0b100 o (sym e) refl) and
-      (λ e n. imm-back w h 0b0000011 0b101 o (sym e) refl) and
-      (λ e n. imm-back w h 0b0000011 0b110 o (sym e) refl) and
+      ((λ e n. imm_back w h 0b0000011 0b000 o (sym e) refl) and
+      (λ e n. imm_back w h 0b0000011 0b001 o (sym e) refl) and
+      (λ e n. imm_back w h 0b0000011 0b010 o (sym e) refl) and
+      (λ e n. imm_back w h 0b0000011 0b011 o (sym e) refl) and
+      (λ e n. imm_back w h 0b0000011 0b100 o (sym e) refl) and
+      (λ e n. imm_back w h 0b0000011 0b101 o (sym e) refl) and
+      (λ e n. imm_back w h 0b0000011 0b110 o (sym e) refl) and
       none w)
 
   pub store_back : 0b0100011 ≡ opcode w → Back w (decode_store_of (fields_of w) (imm_s_of w))
   unfolding decode_store_of pack_of
   store_back o =
       looked (Back w) (bits w 14 12) (stores (fields_of w) (imm_s_of w))
-      ((λ e n. s-back w h 0b0100011 0b000 o (sym e)) and
-      (λ e n. s-back w h 0b0100011 0b001 o (sym e)) and
-      (λ e n. s-back w h 0b0100011 0b010 o (sym e)) and
-      (λ e n. s-back w h 0b0100011 0b011 o (sym e)) and
+      ((λ e n. s_back w h 0b0100011 0b000 o (sym e)) and
+      (λ e n. s_back w h 0b0100011 0b001 o (sym e)) and
+      (λ e n. s_back w h 0b0100011 0b010 o (sym e)) and
+      (λ e n. s_back w h 0b0100011 0b011 o (sym e)) and
       none w)
 
   counts_back : 0b0010011 ≡ opcode w → Back w (count_of (fields_of w))
@@ -93,12 +93,12 @@ module _ (w : ℕ) (h : w < 2 ^ 32) where
   unfolding op_imm_of pack_of
   op_imm_back o =
       looked (Back w) (bits w 14 12) (op_imms (fields_of w) (imm_i_of w))
-      ((λ e n. imm-back w h 0b0010011 0b000 o (sym e) refl) and
-      (λ e n. imm-back w h 0b0010011 0b010 o (sym e) refl) and
-      (λ e n. imm-back w h 0b0010011 0b011 o (sym e) refl) and
-      (λ e n. imm-back w h 0b0010011 0b100 o (sym e) refl) and
-      (λ e n. imm-back w h 0b0010011 0b110 o (sym e) refl) and
-      (λ e n. imm-back w h 0b0010011 0b111 o (sym e) refl) and
+      ((λ e n. imm_back w h 0b0010011 0b000 o (sym e) refl) and
+      (λ e n. imm_back w h 0b0010011 0b010 o (sym e) refl) and
+      (λ e n. imm_back w h 0b0010011 0b011 o (sym e) refl) and
+      (λ e n. imm_back w h 0b0010011 0b100 o (sym e) refl) and
+      (λ e n. imm_back w h 0b0010011 0b110 o (sym e) refl) and
+      (λ e n. imm_back w h 0b0010011 0b111 o (sym e) refl) and
       shifts_back o)
 
   count_words_back : 0b0011011 ≡ opcode w → Back w (count_word_of (fields_of w))
@@ -123,7 +123,7 @@ module _ (w : ℕ) (h : w < 2 ^ 32) where
   unfolding op_imm32_of pack_of
   op_imm_32_back o =
       looked (Back w) (bits w 14 12) (op_imm32s (fields_of w) (imm_i_of w))
-      ((λ e n. imm-back w h 0b0011011 0b000 o (sym e) refl) and
+      ((λ e n. imm_back w h 0b0011011 0b000 o (sym e) refl) and
       word_shifts_back o)
 
   extensions_back : 0b0110011 ≡ opcode w → Back w (extension_of (fields_of w))
@@ -186,6 +186,6 @@ module _ (w : ℕ) (h : w < 2 ^ 32) where
   unfolding misc_mem_of pack_of system_pack_of
   fence_back o =
       looked (Back w) (bits w 14 12) (misc_mems w (fields_of w))
-      ((λ e n. i-back w h 0b0001111 0 _ o (sym e) (fence-parts _ _ _ _ _ (omega arith) (omega arith) (omega arith) (join w 24 4 4) (join w 20 8 4)))
+      ((λ e n. i_back w h 0b0001111 0 _ o (sym e) (fence_parts _ _ _ _ _ (omega arith) (omega arith) (omega arith) (join w 24 4 4) (join w 20 8 4)))
       and
       none w)

@@ -17,7 +17,7 @@ use Rattle.decode_writer.specs.Format.{word_i}
 use Rattle.decode_writer.specs.Pack.{pack_of, system_pack_of, swap_bits, mop_r_bits, mop_rr_bits}
 use Rattle.decode_writer.proofs.Back.{Back, none}
 use Rattle.word.proofs.Tables.{looked, ◌and◌}
-use Rattle.decode_writer.proofs.Formats.{join, i-back}
+use Rattle.decode_writer.proofs.Formats.{join, i_back}
 
 -- a bit that became a test becomes the bit again
 flag_of_lem : (x : ℕ) → x < 2 → ordering_bit (eqb x 1) ≡ x
@@ -39,10 +39,10 @@ quarters f = rw (← shr-shr f 1 1) (go _ _ _ _ _ (split f 1) (split (f / 2) 1))
     go f g q p l e d = omega arith
 
 -- with rs2 they are bits 31:20
-swap-parts :
+swap_parts :
     (q p l b f x : ℕ) → p < 2 → l < 2 → b < 2 ^ 5 → x < 2 ^ 12 → q * 4 + p * 2 + l ≡ f → f * 2 ^ 5 + b ≡ x
     → (q * 2 ^ 7 + swap_bits p l b % 2 ^ 12) % 2 ^ 12 ≡ x
-swap-parts q p l b f x hp hl hb h d e =
+swap_parts q p l b f x hp hl hb h d e =
     into (q * 2 ^ 7) (swap_bits p l b) x h
     (rw (mod-eq_of_lt {n = p} {m = 2} hp, mod-eq_of_lt {n = l} {m = 2} hl, mod-eq_of_lt {n = b} {m = 2 ^ 5} hb) (sum q p l b f x d e))
   where
@@ -61,11 +61,11 @@ module _ (g m l : ℕ) (hg : g < 2) (hm : m < 2 ^ 2) (hl : l < 2 ^ 2) where
   number_0 = omega arith
 
 -- it and the bits around it are bits 31:20
-mop-r-parts :
+mop_r_parts :
     (s g z m y l p q r t x : ℕ) → x < 2 ^ 12 → g < 2 → m < 2 ^ 2 → l < 2 ^ 2 → s ≡ 1 → z ≡ 0 → y ≡ 7 → s * 2 + g ≡ p
     → p * 2 ^ 2 + z ≡ q → q * 2 ^ 2 + m ≡ r → r * 2 ^ 4 + y ≡ t → t * 2 ^ 2 + l ≡ x
     → (0b100000011100 + mop_r_bits (g * 2 ^ 4 + m * 2 ^ 2 + l) % 2 ^ 12) % 2 ^ 12 ≡ x
-mop-r-parts s g z m y l p q r t x h hg hm hl es ez ey e1 e2 e3 e4 e5 =
+mop_r_parts s g z m y l p q r t x h hg hm hl es ez ey e1 e2 e3 e4 e5 =
     rw (number_4 g m l hg hm hl, number_2 g m l hg hm hl, number_0 g m l hg hm hl)
     (into _ _ x h (sum s g z m y l p q r t x es ez ey e1 e2 e3 e4 e5))
   where
@@ -75,11 +75,11 @@ mop-r-parts s g z m y l p q r t x h hg hm hl es ez ey e1 e2 e3 e4 e5 =
     sum s g z m y l p q r t x es ez ey e1 e2 e3 e4 e5 = omega arith
 
 -- the same for MOP.RR and rs2
-mop-rr-parts :
+mop_rr_parts :
     (s g z m y b p q r t x : ℕ) → x < 2 ^ 12 → g < 2 → m < 2 ^ 2 → b < 2 ^ 5 → s ≡ 1 → z ≡ 0 → y ≡ 1 → s * 2 + g ≡ p
     → p * 2 ^ 2 + z ≡ q → q * 2 ^ 2 + m ≡ r → r * 2 + y ≡ t → t * 2 ^ 5 + b ≡ x
     → (0b100000100000 + mop_rr_bits (g * 2 ^ 2 + m) b % 2 ^ 12) % 2 ^ 12 ≡ x
-mop-rr-parts s g z m y b p q r t x h hg hm hb es ez ey e1 e2 e3 e4 e5 =
+mop_rr_parts s g z m y b p q r t x h hg hm hb es ez ey e1 e2 e3 e4 e5 =
     rw (
       digits_div g hm,
       digits_mod g hm,
@@ -105,24 +105,24 @@ ssp_word : (w d : ℕ) → d < 2 ^ 5 → w - d * 2 ^ 7 ≡ 0xCDC04073 → word_i
 ssp_word w d h e = omega arith
 
 module _ (w : ℕ) (h : w < 2 ^ 32) where
-  swap-row :
+  swap_row :
       (k key : ℕ) → 0b0101111 ≡ opcode w → amo_key (fields_of w) ≡ key → k % 2 ^ 3 ≡ key % 8 → k / 2 ^ 3 ≡ key / 8 * 2 ^ 7
       → word_i 0b0101111 k (bits w 11 7) (bits w 19 15)
       (swap_bits (ordering_bit (aq (fields_of w))) (ordering_bit (rl (fields_of w))) (bits w 24 20)) ≡ w
-  swap-row k key o e e3 e7 =
+  swap_row k key o e e3 e7 =
       let a : bits w 14 12 < 8 = omega arith in
       let f7 : bits w 31 25 / 4 ≡ key / 8 = omega arith in
       let f3 : bits w 14 12 ≡ key % 8 = omega arith in
-      i-back w h 0b0101111 k _ o (e3 ∙ sym f3)
+      i_back w h 0b0101111 k _ o (e3 ∙ sym f3)
       (rw (e7, ← f7, flag_of_lem (bits w 31 25 / 2 % 2) (omega arith), flag_of_lem (bits w 31 25 % 2) (omega arith))
-      (swap-parts _ _ _ _ _ _ (omega arith) (omega arith) (omega arith) (omega arith) (quarters (bits w 31 25)) (join w 20 7 5)))
+      (swap_parts _ _ _ _ _ _ (omega arith) (omega arith) (omega arith) (omega arith) (quarters (bits w 31 25)) (join w 20 7 5)))
 
   pub swap_back : 0b0101111 ≡ opcode w → Back w (swap_of (fields_of w))
   unfolding swap_of pack_of system_pack_of
   swap_back o =
       looked (Back w) (amo_key (fields_of w)) (swaps (fields_of w))
-      ((λ e n. swap-row 0b0100100_00000_010 0b01001_010 o e refl refl) and
-      (λ e n. swap-row 0b0100100_00000_011 0b01001_011 o e refl refl) and
+      ((λ e n. swap_row 0b0100100_00000_010 0b01001_010 o e refl refl) and
+      (λ e n. swap_row 0b0100100_00000_011 0b01001_011 o e refl refl) and
       none w)
 
   mop_rr_back : 0b1110011 ≡ opcode w → 0b100 ≡ bits w 14 12 → Back w (look (mop_rr_key w) (mop_rrs w (fields_of w)))
@@ -131,8 +131,8 @@ module _ (w : ℕ) (h : w < 2 ^ 32) where
       looked (Back w) (mop_rr_key w) (mop_rrs w (fields_of w))
       ((λ e n.
       let k = keys_rr (bits w 31 31) (bits w 29 28) (bits w 25 25) (omega arith) (omega arith) (omega arith) e in
-      i-back w h 0b1110011 0b1000001_00000_100 _ o f
-      (mop-rr-parts _ _ _ _ _ _ _ _ _ _ _ (omega arith) (omega arith) (omega arith) (omega arith) k.0 k.1 k.2
+      i_back w h 0b1110011 0b1000001_00000_100 _ o f
+      (mop_rr_parts _ _ _ _ _ _ _ _ _ _ _ (omega arith) (omega arith) (omega arith) (omega arith) k.0 k.1 k.2
       (join w 30 1 1) (join w 28 2 2) (join w 26 4 2) (join w 25 6 1) (join w 20 7 5))) and
       none w)
 
@@ -142,8 +142,8 @@ module _ (w : ℕ) (h : w < 2 ^ 32) where
       looked (Back w) (mop_r_key w) (mop_rs w (fields_of w))
       ((λ e n.
       let k = keys_r (bits w 31 31) (bits w 29 28) (bits w 25 22) (omega arith) (omega arith) (omega arith) e in
-      i-back w h 0b1110011 0b1000000_11100_100 _ o f
-      (mop-r-parts _ _ _ _ _ _ _ _ _ _ _ (omega arith) (omega arith) (omega arith) (omega arith) k.0 k.1 k.2
+      i_back w h 0b1110011 0b1000000_11100_100 _ o f
+      (mop_r_parts _ _ _ _ _ _ _ _ _ _ _ (omega arith) (omega arith) (omega arith) (omega arith) k.0 k.1 k.2
       (join w 30 1 1) (join w 28 2 2) (join w 26 4 2) (join w 22 6 4) (join w 20 10 2))) and
       mop_rr_back o f)
 

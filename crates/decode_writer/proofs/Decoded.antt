@@ -8,7 +8,7 @@ use Rattle.decode.specs.System.{decode_csr_of, csrs, system_of, systems}
 use Rattle.decode.specs.Decode.{decode_of, opcodes}
 use Rattle.decode_writer.specs.Pack.{pack_of, system_pack_of}
 use Rattle.word.proofs.Tables.{looked, ◌and◌}
-use Rattle.decode_writer.proofs.Formats.{i-back, u_back, j_back}
+use Rattle.decode_writer.proofs.Formats.{i_back, u_back, j_back}
 use Rattle.decode_writer.proofs.Back.{Back, none, jalr_back, branch_back, load_back, store_back, op_imm_back, op_imm_32_back, op_back, op_32_back}
 use Rattle.decode_writer.proofs.Back.{fence_back}
 use Rattle.decode_writer.proofs.Cfi.{swap_back, zimop_back}
@@ -21,12 +21,12 @@ module _ (w : ℕ) (h : w < 2 ^ 32) where
   unfolding decode_csr_of pack_of system_pack_of
   csr_back o =
       looked (Back w) (bits w 14 12) (csrs w (fields_of w))
-      ((λ e n. i-back w h 0b1110011 0b001 _ o (sym e) (number (bits w 31 20) (omega arith))) and
-      (λ e n. i-back w h 0b1110011 0b010 _ o (sym e) (number (bits w 31 20) (omega arith))) and
-      (λ e n. i-back w h 0b1110011 0b011 _ o (sym e) (number (bits w 31 20) (omega arith))) and
-      (λ e n. i-back w h 0b1110011 0b101 _ o (sym e) (number (bits w 31 20) (omega arith))) and
-      (λ e n. i-back w h 0b1110011 0b110 _ o (sym e) (number (bits w 31 20) (omega arith))) and
-      (λ e n. i-back w h 0b1110011 0b111 _ o (sym e) (number (bits w 31 20) (omega arith))) and
+      ((λ e n. i_back w h 0b1110011 0b001 _ o (sym e) (number (bits w 31 20) (omega arith))) and
+      (λ e n. i_back w h 0b1110011 0b010 _ o (sym e) (number (bits w 31 20) (omega arith))) and
+      (λ e n. i_back w h 0b1110011 0b011 _ o (sym e) (number (bits w 31 20) (omega arith))) and
+      (λ e n. i_back w h 0b1110011 0b101 _ o (sym e) (number (bits w 31 20) (omega arith))) and
+      (λ e n. i_back w h 0b1110011 0b110 _ o (sym e) (number (bits w 31 20) (omega arith))) and
+      (λ e n. i_back w h 0b1110011 0b111 _ o (sym e) (number (bits w 31 20) (omega arith))) and
       (λ e. zimop_back w h o (sym e)) and
       none w)
 

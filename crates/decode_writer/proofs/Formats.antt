@@ -13,10 +13,10 @@ use Rattle.decode_base.specs.Base.{functs, shift_key, shift_amount, count_key}
 use Rattle.decode_writer.specs.Format.{word_from, word_i, word_s, word_b, word_u, word_j}
 
 -- field by field, what is above the field as a number of its own: one sum over all of them is more than omega takes
-sum-up :
+sum_up :
     (w o p d q f r a s n : ℕ) → w ≡ o + p * 2 ^ 7 → p ≡ d + q * 2 ^ 5 → q ≡ f + r * 2 ^ 3 → r ≡ a + s * 2 ^ 5 → s ≡ n
     → o + d * 2 ^ 7 + f * 2 ^ 12 + a * 2 ^ 15 + n * 2 ^ 20 ≡ w
-sum-up w o p d q f r a s n h1 h2 h3 h4 h5 = omega arith
+sum_up w o p d q f r a s n h1 h2 h3 h4 h5 = omega arith
 
 -- five parts that are a word's are that word
 pub whole :
@@ -24,7 +24,7 @@ pub whole :
     → a % 2 ^ 5 ≡ bits w 19 15 → n % 2 ^ 12 ≡ bits w 31 20 → word_from op d f a n ≡ w
 whole w op d f a n h eo ed ef ea en =
     rw (eo, ed, ef, ea, en)
-    (sum-up w (w % 2 ^ 7) (w / 2 ^ 7) (w / 2 ^ 7 % 2 ^ 5) (w / 2 ^ 12) (w / 2 ^ 12 % 2 ^ 3) (w / 2 ^ 15) (w / 2 ^ 15 % 2 ^ 5)
+    (sum_up w (w % 2 ^ 7) (w / 2 ^ 7) (w / 2 ^ 7 % 2 ^ 5) (w / 2 ^ 12) (w / 2 ^ 12 % 2 ^ 3) (w / 2 ^ 15) (w / 2 ^ 15 % 2 ^ 5)
     (w / 2 ^ 20) (w / 2 ^ 20 % 2 ^ 12) (omega arith) (omega arith) (omega arith) (omega arith) (omega arith))
 
 -- numbers that agree in their low bits agree in a part of them
@@ -109,17 +109,17 @@ cut k x e = rw e (mod-mod x (2 ^ k))
 
 module _ (w : ℕ) (h : w < 2 ^ 32) where
   -- R and I: what is added to the key's upper bits makes them bits 31:20
-  pub i-back :
+  pub i_back :
       (op k n : ℕ) → op % 2 ^ 7 ≡ opcode w → k % 2 ^ 3 ≡ bits w 14 12 → (k / 2 ^ 3 + n % 2 ^ 12) % 2 ^ 12 ≡ bits w 31 20
       → word_i op k (bits w 11 7) (bits w 19 15) n ≡ w
-  i-back op k n eo ek en = whole w op _ k _ _ h eo (mod-mod _ _) ek (mod-mod _ _) en
+  i_back op k n eo ek en = whole w op _ k _ _ h eo (mod-mod _ _) ek (mod-mod _ _) en
 
   -- I with an immediate
-  pub imm-back :
+  pub imm_back :
       (op k : ℕ) → op % 2 ^ 7 ≡ opcode w → k % 2 ^ 3 ≡ bits w 14 12 → k / 2 ^ 3 ≡ 0
       → word_i op k (bits w 11 7) (bits w 19 15) (imm_i_of w) ≡ w
-  imm-back op k eo ek ez =
-      i-back op k (imm_i_of w) eo ek (rw (ez, extend_keeps 12 (bits w 31 20) (omega arith) (omega arith)) (omega arith))
+  imm_back op k eo ek ez =
+      i_back op k (imm_i_of w) eo ek (rw (ez, extend_keeps 12 (bits w 31 20) (omega arith) (omega arith)) (omega arith))
 
   -- R, and the shifts of words: funct7 and funct3 side by side are the row's key
   pub r_back :
@@ -129,7 +129,7 @@ module _ (w : ℕ) (h : w < 2 ^ 32) where
       let a : bits w 14 12 < 8 = omega arith in
       let f7 : bits w 31 25 ≡ key / 8 = omega arith in
       let f3 : bits w 14 12 ≡ key % 8 = omega arith in
-      i-back op k (bits w 24 20) eo (e3 ∙ sym f3)
+      i_back op k (bits w 24 20) eo (e3 ∙ sym f3)
       (cut 12 (w / 2 ^ 20) (rw (e7, ← f7, mod-eq_of_lt {n = bits w 24 20} {m = 2 ^ 12} (omega arith)) (join w 20 7 5)))
 
   -- the counts: funct7, rs2 and funct3 are the row's key, and there is no operand
@@ -139,7 +139,7 @@ module _ (w : ℕ) (h : w < 2 ^ 32) where
       let b : bits w 24 20 < 2 ^ 5 = omega arith in
       let f3 : key % 8 ≡ bits w 14 12 = omega arith in
       let f : key / 8 ≡ bits w 31 25 * 2 ^ 5 + bits w 24 20 = omega arith in
-      i-back op key 0 eo f3 (cut 12 (w / 2 ^ 20) (rw f (padded _ _ (join w 20 7 5))))
+      i_back op key 0 eo f3 (cut 12 (w / 2 ^ 20) (rw f (padded _ _ (join w 20 7 5))))
 
   -- the shifts: bits 31:26 and funct3 are the row's key
   pub shift_back :
@@ -149,15 +149,15 @@ module _ (w : ℕ) (h : w < 2 ^ 32) where
       let a : bits w 14 12 < 8 = omega arith in
       let f7 : bits w 31 25 / 2 ≡ key / 8 = omega arith in
       let f3 : bits w 14 12 ≡ key % 8 = omega arith in
-      i-back op k (shift_amount (fields_of w)) eo (e3 ∙ sym f3)
+      i_back op k (shift_amount (fields_of w)) eo (e3 ∙ sym f3)
       (cut 12 (w / 2 ^ 20)
       (rw (e7, ← f7, mod-eq_of_lt {n = shift_amount (fields_of w)} {m = 2 ^ 12} (amount (bits w 31 25) (bits w 24 20) (omega arith)))
       (halved _ _ _ (join w 20 7 5))))
 
-  pub s-back :
+  pub s_back :
       (op k : ℕ) → op % 2 ^ 7 ≡ opcode w → k % 2 ^ 3 ≡ bits w 14 12
       → word_s op k (bits w 19 15) (bits w 24 20) (imm_s_of w) ≡ w
-  s-back op k eo ek =
+  s_back op k eo ek =
       let hd : bits w 11 7 < 2 ^ 5 = omega arith in
       let e : imm_s_of w % 2 ^ 12 ≡ (bits w 31 25 * 2 ^ 5 + bits w 11 7) % 2 ^ 12 = extend_keeps 12 _ (omega arith) (omega arith) in
       let low : imm_s_of w % 2 ^ 5 ≡ bits w 11 7 = sym (mod-mod-pow (imm_s_of w) 7 5)
@@ -166,10 +166,10 @@ module _ (w : ℕ) (h : w < 2 ^ 32) where
       whole w op (imm_s_of w) k _ _ h eo low ek (mod-mod _ _)
       (cut 12 (w / 2 ^ 20) (rw (high, mod-mod (w / 2 ^ 20) (2 ^ 5)) (join w 20 7 5)))
 
-  pub b-back :
+  pub b_back :
       (op k : ℕ) → op % 2 ^ 7 ≡ opcode w → k % 2 ^ 3 ≡ bits w 14 12
       → word_b op k (bits w 19 15) (bits w 24 20) (imm_b_of w) ≡ w
-  b-back op k eo ek =
+  b_back op k eo ek =
       let hs : bits w 31 31 < 2 = omega arith in
       let ht : bits w 7 7 < 2 = omega arith in
       let hp : bits w 30 25 < 2 ^ 6 = omega arith in

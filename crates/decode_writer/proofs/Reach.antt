@@ -118,10 +118,10 @@ module _ (w : ℕ) where
       rw (← f) (reach_21 _ (even_j (bits w 31 31) (bits w 19 12) (bits w 20 20) (bits w 30 21)))
 
 -- a distance out of reach is refused
-pub branch-refused :
+pub branch_refused :
     (c : Condition) (a b o : ℕ) → (InReach 13 o → ⊥) → (r : Written) → Answers (Branch c a b o) r → r ≡ Refused
-branch-refused c a b o n (Word w) p = absurd (n (branch_reach w c a b o p))
-branch-refused c a b o n Refused p = refl
+branch_refused c a b o n (Word w) p = absurd (n (branch_reach w c a b o p))
+branch_refused c a b o n Refused p = refl
 
 pub jump_refused : (d o : ℕ) → (InReach 21 o → ⊥) → (r : Written) → Answers (Jal d o) r → r ≡ Refused
 jump_refused d o n (Word w) p = absurd (n (jump_reach w d o p))
@@ -134,11 +134,11 @@ jump_legal : (d o : ℕ) → Jal d o ≡ Illegal → ⊥
 jump_legal d o z = let e : ◌≡◌ {A = ℕ} 3 0 = ap (λ (i : Instruction). (numbers_of i).family) z in absurd (omega arith)
 
 -- −4,096 and 4,094
-pub farthest_branches : Reads 0x80000063 (Branch Equal 0 0 (2 ^ 64 - 4096)) × Reads 0x7_e000_fe3 (Branch Equal 0 0 4094)
+pub farthest_branches : Reads 0x80000063 (Branch Equal 0 0 (2 ^ 64 - 4096)) × Reads 0x7E000FE3 (Branch Equal 0 0 4094)
 unfolding decode_of decode_branch_of
 farthest_branches = ((omega arith, refl, branch_legal Equal 0 0 _), (omega arith, refl, branch_legal Equal 0 0 _))
 
 -- −1,048,576 and 1,048,574
-pub farthest_jumps : Reads 0x8000006_f (Jal 0 (2 ^ 64 - 1048576)) × Reads 0x7_ffff06_f (Jal 0 1048574)
+pub farthest_jumps : Reads 0x8000006F (Jal 0 (2 ^ 64 - 1048576)) × Reads 0x7FFFF06F (Jal 0 1048574)
 unfolding decode_of
 farthest_jumps = ((omega arith, refl, jump_legal 0 _), (omega arith, refl, jump_legal 0 _))

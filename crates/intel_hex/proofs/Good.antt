@@ -90,7 +90,7 @@ module _ (l : List ℕ) where
     unfolding record_address_of
     good_by n = rw (good_is len upper, eq-eqb (line_sum_of l) 0 z, counted_is (paired l z).0 n)
 
-  -- a well_formed_lem line
+  -- a well-formed line
   pub formed : well_formed l ≡ true
       → (hex_pairs (drop 1 l) ≡ true) × (length l ≡ 2 * record_count_of l + 11) × (shaped (record_type_of l) (record_count_of l) (offset_of l) ≡ true)
   unfolding well_formed

@@ -49,9 +49,9 @@ pub given : (l : List ℕ) (w : ℕ) → Gives w l → ReadsNumbers w (eight_at 
 given l w (h, r, d) = (h, ap eight_at d, legal w r)
 
 -- what a read answers, by what it called
-pub result-of :
+pub result_of :
     (n : Eight) (i : Instruction) (w : ℕ) → n ≡ numbers_of i → i ≡ decode_of w → look n.family read_results ≡ read_result w
-result-of n i w e d =
+result_of n i w e d =
     ap (λ (m : Eight). look m.family read_results) e ∙ ap (λ j. look (numbers_of j).family read_results) d
 
 pub left_of_lem : (n : Eight) (i : Instruction) (w : ℕ) → n ≡ numbers_of i → i ≡ decode_of w → list_of n ≡ read_left w

@@ -15,10 +15,10 @@ pub one_word : (l : List ℕ) (v w : ℕ) → Gives v l → Gives w l → v ≡ 
 one_word l v w a b = sym (packed (eight_at l) v (given l v a)) ∙ packed (eight_at l) w (given l w b)
 
 -- read a word, and write the numbers: the result is 0 and the word is the one that was read
-pub read-write :
+pub read_write :
     (w before after r : ℕ) → w < 2 ^ 32 → read_result w ≡ 0 → Wrote (read_left w) before after r → (r ≡ 0) × (after ≡ w)
-read-write w before after r h l (inl (e, g)) = (e, one_word (read_left w) after w g (h, l, refl))
-read-write w before after r h l (inr (e, k, n)) = absurd (n w (h, l, refl))
+read_write w before after r h l (inl (e, g)) = (e, one_word (read_left w) after w g (h, l, refl))
+read_write w before after r h l (inr (e, k, n)) = absurd (n w (h, l, refl))
 
 -- write eight numbers, and read the word: the result is 0 and the numbers are those that were written
 pub write_read :

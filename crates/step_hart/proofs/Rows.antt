@@ -41,8 +41,8 @@ module _ (x w m map : List ℕ) where
   unfolding step_from effect_of fetched_of arrived_of landed_of execute_of setting_of
   step_5 on skipped = rw (skipped, row_5, on)
 
-  -- 0x12345017, x7 = 0x12345_fff, expected: passes
-  pub step_6 : ELP of w ≡ 1 → pads ≡ true → reg_of x 7 ≡ 0x12345_fff
+  -- 0x12345017, x7 = 0x12345FFF, expected: passes
+  pub step_6 : ELP of w ≡ 1 → pads ≡ true → reg_of x 7 ≡ 0x12345FFF
       → step_word_of 0x12345017 (hart x w) m map ≡ went x (w but PC ≔ next_of (PC of w) but ELP ≔ 0) m
   unfolding step_from effect_of fetched_of arrived_of landed_of setting_of
   step_6 elp on x7 = rw (elp, on, x7)
@@ -53,9 +53,9 @@ module _ (x w m map : List ℕ) where
   unfolding step_from effect_of fetched_of arrived_of landed_of setting_of
   step_7 elp on x7 = rw (elp, on, x7)
 
-  -- 0x000500_e7, pads on, ELP 0, x10 = 0: ELP 1
+  -- 0x000500E7, pads on, ELP 0, x10 = 0: ELP 1
   pub step_8 : ELP of w ≡ 0 → pads ≡ true → reg_of x 10 ≡ 0
-      → step_word_of 0x000500_e7 (hart x w) m map ≡ went (put_of 1 (next_of (PC of w)) x) (w but PC ≔ 0 but ELP ≔ 1) m
+      → step_word_of 0x000500E7 (hart x w) m map ≡ went (put_of 1 (next_of (PC of w)) x) (w but PC ≔ 0 but ELP ≔ 1) m
   unfolding step_from effect_of fetched_of arrived_of landed_of execute_of jalr_of setting_of
   step_8 elp on x10 = rw (elp, row_8, on, x10)
 

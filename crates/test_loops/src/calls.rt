@@ -46,7 +46,7 @@ pub fn start() -> Hart
     Hart { x, words: w }
 }
 
-// x5 has counted 500,000 turns, x1 is the return address of each, and so is what was pushed last, at 0x57_f8, the second of the
+// x5 has counted 500,000 turns, x1 is the return address of each, and so is what was pushed last, at 0x57F8, the second of the
 // four doublewords. ssp is back, and no pad is expected. Four runs of 1,000,000 steps end with the last bne; a fifth takes
 // the ecall, from U (cause 8) to M.
 pub fn wanted() -> [u64; 32]

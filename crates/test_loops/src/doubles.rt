@@ -36,7 +36,7 @@ pub fn start() -> Hart
 
 // The doubleword at 0x80001000 counts n = 400,000 turns up, and the word at 0x80001008 counts them down from 0: 2^32 - n. x5
 // and x6 are what was stored last, where x6 is the whole -n. x7 and the byte at 0x80001010 are the low byte of 400,000 =
-// 0x61_a80. Four runs of 1,000,000 steps end with the last bne; a fifth takes the ecall.
+// 0x61A80. Four runs of 1,000,000 steps end with the last bne; a fifth takes the ecall.
 pub fn wanted() -> [u64; 30]
     ensures { 30 ≡ length result }
 {

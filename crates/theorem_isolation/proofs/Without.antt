@@ -41,7 +41,7 @@ use Rattle.theorem_isolation.proofs.Witness.{front, memory_with, map₀, hart₀
 
 -- ld x6, 0(x3), as a row of one call
 abbrev pub look : List Call
-look = step_given_word 0x0001_b303 ∷ []
+look = step_given_word 0x0001B303 ∷ []
 
 -- register 6 after the first call
 abbrev pub sixth : List Answer → ℕ
@@ -89,7 +89,7 @@ abbrev pub zeroed : (k : ℕ) → List ℕ
 zeroed k = replicate k 0
 
 abbrev pub map_above : List ℕ
-map_above = 0 ∷ 0x200004_d7 ∷ []
+map_above = 0 ∷ 0x200004D7 ∷ []
 
 abbrev pub hart_above : Hart
 hart_above = with_reg 6 1 (with_reg 3 0 hart₀)
@@ -157,12 +157,12 @@ needs_sv39 = (
 
 -- "Up to and including the first trap": from a start that meets all, one step traps, with one answer in both memories; a step from the hart that
 -- it leaves breaks it
-pub needs-stop :
+pub needs_stop :
     IsolationStarts Taken map₀ aimed (memory_with 0xAA) (memory_with 0xBB)
     × ((step_word_call ecall aimed (memory_with 0xAA) map₀).answer ≡ record { refusal = 0; hart = trapped; count = 1; trapped = true; cause = 8 })
     × ((step_word_call ecall aimed (memory_with 0xBB) map₀).answer ≡ record { refusal = 0; hart = trapped; count = 1; trapped = true; cause = 8 })
     × Breaks trapped
-needs-stop = (
+needs_stop = (
   together aimed refl refl (alike₀ (in_force aimed)),
   computed.trap_one,
   computed.trap_other,
@@ -176,11 +176,11 @@ zeros k o =
     (λ l. get_or-eq_default (zeroed k) 0 (rw (length-replicate k) l))
 
 -- "of the same length"
-pub needs-length :
+pub needs_length :
     InUser hart_above × Sv39 hart_above
     × ((o : ℕ) → get_or (zeroed 8192) o 0 ≡ get_or (zeroed 4096) o 0)
     × (Unseen Taken map_above hart_above (zeroed 8192) (zeroed 4096) look → ⊥)
-needs-length = (
+needs_length = (
   refl,
   refl,
   (λ o. zeros 8192 o ∙ sym (zeros 4096 o)),
@@ -188,10 +188,10 @@ needs-length = (
 )
 
 -- "that differ only in frames that no valid entry with its U bit names"
-pub needs-agreement :
+pub needs_agreement :
     InUser reading × Sv39 reading × (length (memory_with 0xAA) ≡ length touched)
     × (Unseen Taken map₀ reading (memory_with 0xAA) touched look → ⊥)
-needs-agreement = (
+needs_agreement = (
   refl,
   refl,
   computed.touched_long,

@@ -50,7 +50,7 @@ use Rattle.theorem_isolation.proofs.Isolation.{by_step_5}
 
 -- ld x5, 0(x2); sd x5, 8(x2); ld x6, 0(x3)
 abbrev program : List ℕ
-program = bytes_of 4 0x00013283 ++ bytes_of 4 0x00513423 ++ bytes_of 4 0x0001_b303
+program = bytes_of 4 0x00013283 ++ bytes_of 4 0x00513423 ++ bytes_of 4 0x0001B303
 
 -- the program's page, and a page with 0x1111 at its start
 unfoldable pub front : List ℕ
@@ -63,12 +63,12 @@ memory_with secret = front ++ secret ∷ replicate 4095 0
 -- page 0 is frame 0x80000 with V, X, U and A; page 1 is frame 0x80001 with V, R, W, U, A and D; page 2 is frame 0x80002, the other
 -- supplier's, with V, R, W, A and D and without U
 abbrev pub pages : List ℕ
-pages = 0 ∷ 0x20000059 ∷ 1 ∷ 0x200004_d7 ∷ 2 ∷ 0x200008_c7 ∷ []
+pages = 0 ∷ 0x20000059 ∷ 1 ∷ 0x200004D7 ∷ 2 ∷ 0x200008C7 ∷ []
 
 -- and the odd ones: page 3 is frame 0x90000, outside memory, with V, R, W, U, A and D; page 4 is frame 0x80001 once more, without U;
 -- page 5 is the other supplier's frame with V and U, and no right
 abbrev pub map₀ : List ℕ
-map₀ = 0 ∷ 0x20000059 ∷ 1 ∷ 0x200004_d7 ∷ 2 ∷ 0x200008_c7 ∷ 3 ∷ 0x240000_d7 ∷ 4 ∷ 0x200004_c7 ∷ 5 ∷ 0x20000811 ∷ []
+map₀ = 0 ∷ 0x20000059 ∷ 1 ∷ 0x200004D7 ∷ 2 ∷ 0x200008C7 ∷ 3 ∷ 0x240000D7 ∷ 4 ∷ 0x200004C7 ∷ 5 ∷ 0x20000811 ∷ []
 
 -- in user mode with Sv39; x2 is page 1, x3 page 2
 abbrev pub hart₀ : Hart
@@ -180,9 +180,9 @@ pub record Computed : Type 0 where
   pub first : plan_of Fetch hart₀ (memory_with 0xAA) map₀ ≡ Write 5 0x1111 4
   pub second : plan_of Fetch hart₁ (memory_with 0xAA) map₀ ≡ Store (record { 0 = 0x80001008 }) Double 0x1111 8
   pub third : plan_of Fetch hart₂ (stored 0xAA) map₀ ≡ Trap 13 0x2000
-  pub outside : plan_of (Given 0x0001_b303) (with_reg 3 0x3000 hart₀) (memory_with 0xAA) map₀ ≡ Trap 5 0x3000
-  pub twice : plan_of (Given 0x0001_b303) (with_reg 3 0x4000 hart₀) (memory_with 0xAA) map₀ ≡ Trap 13 0x4000
-  pub pointer : plan_of (Given 0x0001_b303) (with_reg 3 0x5000 hart₀) (memory_with 0xAA) map₀ ≡ Trap 13 0x5000
+  pub outside : plan_of (Given 0x0001B303) (with_reg 3 0x3000 hart₀) (memory_with 0xAA) map₀ ≡ Trap 5 0x3000
+  pub twice : plan_of (Given 0x0001B303) (with_reg 3 0x4000 hart₀) (memory_with 0xAA) map₀ ≡ Trap 13 0x4000
+  pub pointer : plan_of (Given 0x0001B303) (with_reg 3 0x5000 hart₀) (memory_with 0xAA) map₀ ≡ Trap 13 0x5000
 
 pub computed : Computed
 unfolding refusal_of legal words_legal memory.memory_refused_of page.map_refused_of page.pages_of page.any_large page.rise_from page.strictly_rise effect_of fetched_of

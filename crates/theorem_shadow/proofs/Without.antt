@@ -111,7 +111,7 @@ stores = Store there Double 0x2222 4
 
 -- without "one entry only": the frame of the shadow page is page 2's too, which has V, R, W, U, A and D
 abbrev pub twice : List ℕ
-twice = 0 ∷ 0x20000059 ∷ 1 ∷ 0x200004_d5 ∷ 2 ∷ 0x200004_d7 ∷ []
+twice = 0 ∷ 0x20000059 ∷ 1 ∷ 0x200004D5 ∷ 2 ∷ 0x200004D7 ∷ []
 
 abbrev pub alias : Hart
 alias = aimed 0x2010
@@ -126,7 +126,7 @@ in_machine = with_word MODE 3 (aimed 0x80001010)
 
 -- without "no swap": ssamoswap.d x0, x5, (x2) writes the shadow bytes and is no push
 abbrev pub ssamoswap : ℕ
-ssamoswap = 0x4851302_f
+ssamoswap = 0x4851302F
 
 abbrev pub swapping : Hart
 swapping = aimed 0x1010
@@ -202,9 +202,9 @@ unfolding memory₀ bytes_of store_of latest
 breaks map h shadow p = absurd (omega (arith, p.bytes 0x1010 shadow))
 
 -- "let each frame of a valid shadow page stand in one entry of the map only"
-pub needs-once :
+pub needs_once :
     Accepted twice alias × InUser alias × Sv39 alias × Menvcfg alias × Senvcfg alias × Changes twice alias × Breaks twice alias
-needs-once = (
+needs_once = (
   computed.alias_accepted,
   refl,
   refl,
@@ -241,13 +241,13 @@ needs_user = (
 )
 
 -- "without a shadow swap"
-pub needs-no-swap :
+pub needs_no_swap :
     ShadowStarts map₀ swapping memory₀
     × NoPointerWrite (plan_of (Given ssamoswap) swapping memory₀ map₀)
     × (plan_of (Given ssamoswap) swapping memory₀ map₀ ≡ Swap 0 0x1111 there Double 0x2222 4)
     × (step_from (Given ssamoswap) swapping memory₀ map₀ ≡ left swapping changed)
     × Breaks map₀ swapping
-needs-no-swap = (
+needs_no_swap = (
   together map₀ swapping computed.swapping_accepted refl refl refl refl (once₀ (in_force swapping)),
   rw computed.swapping_swaps (no_pointer_write _ (λ e. absurd (omega (arith, e)))),
   computed.swapping_swaps,
@@ -256,14 +256,14 @@ needs-no-swap = (
 )
 
 -- "without a write of the shadow pointer by a CSR instruction"
-pub needs-no-pointer-write :
+pub needs_no_pointer_write :
     ShadowStarts map₀ pointing memory₀
     × NoSwap (plan_of (Given csrrw) pointing memory₀ map₀)
     × (plan_of (Given csrrw) pointing memory₀ map₀ ≡ Privileged (Csr operation.Write Ssp true 0x1020 0 4))
     × (step_from (Given csrrw) pointing memory₀ map₀ ≡ left (with_word SSP 0x1020 pointing) memory₀)
     × (Promise map₀ pointing memory₀ (quiet ∷ []) (with_word PC 4 (with_word SSP 0x1020 pointing)) memory₀ false → ⊥)
 unfolding pushes pops
-needs-no-pointer-write = (
+needs_no_pointer_write = (
   together map₀ pointing computed.pointing_accepted refl refl refl refl (once₀ (in_force pointing)),
   rw computed.pointing_writes (no_swap _ (λ e. absurd (omega (arith, e)))),
   computed.pointing_writes,
@@ -272,12 +272,12 @@ needs-no-pointer-write = (
 )
 
 -- "both shadow-stack enables on": already at the start a pop-check would not trap, where its register is not what stands there
-pub needs-senvcfg :
+pub needs_senvcfg :
     Accepted map₀ disabled × InUser disabled × Sv39 disabled × Menvcfg disabled × Once map₀ disabled
     × Stretch map₀ disabled memory₀ [] disabled memory₀ false
     × (Promise map₀ disabled memory₀ [] disabled memory₀ false → ⊥)
 unfolding memory₀ bytes_of number load_of unmatched
-needs-senvcfg = (
+needs_senvcfg = (
   computed.disabled_accepted,
   refl,
   refl,

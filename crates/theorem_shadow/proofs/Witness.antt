@@ -61,7 +61,7 @@ memory₀ = program ++ replicate 4084 0 ++ bytes_of 8 0x1111 ++ replicate 4072 0
 
 -- page 0 is frame 0x80000 with V, X, U and A; page 1 is frame 0x80001 with V, W, U, A and D, a shadow page
 abbrev pub map₀ : List ℕ
-map₀ = 0 ∷ 0x20000059 ∷ 1 ∷ 0x200004_d5 ∷ []
+map₀ = 0 ∷ 0x20000059 ∷ 1 ∷ 0x200004D5 ∷ []
 
 -- in user mode with Sv39 and both enables; x1 is 0x1111 and x5 is 0x2222; the pointer is at the 0x1111 in memory
 abbrev pub hart₀ : Hart

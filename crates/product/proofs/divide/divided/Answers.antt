@@ -5,7 +5,7 @@ use native.Mathlib.Omega.{arith}
 use borrow.Author.Tests.{eq-eqb}
 use lib.Pow.{pow_pos}
 use Rattle.product.specs.Quotient.{quotient_of}
-use Rattle.product.proofs.Sizes.{quotient-turned}
+use Rattle.product.proofs.Sizes.{quotient_turned}
 use Rattle.product.proofs.divide.divided.Goals as goal
 
 pub returns-then-b-eq0 : goal.returns-then-b-eq0
@@ -25,4 +25,4 @@ returns c k e p =
       c.negative-other.ensures k e p (omega arith),
       c.negative-minus.ensures k e p (omega arith),
     )
-    (sym (quotient-turned a.signed k a.a a.b (omega arith) (omega arith) (omega arith)))
+    (sym (quotient_turned a.signed k a.a a.b (omega arith) (omega arith) (omega arith)))

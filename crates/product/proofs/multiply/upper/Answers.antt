@@ -3,7 +3,7 @@ use mathlib.Core.Path.{refl, sym}
 use native.Mathlib.Omega.{arith}
 use Rattle.product.specs.Product.{upper_of}
 use Rattle.product.proofs.Reading.{reads}
-use Rattle.product.proofs.Uppers.{upper-reads}
+use Rattle.product.proofs.Uppers.{upper_reads}
 use Rattle.product.proofs.multiply.upper.Goals as goal
 
 pub returns : goal.returns
@@ -20,4 +20,4 @@ returns c =
       c.negative-2.ensures 64 refl (omega arith) (omega arith),
       c.negative.ensures 64 refl (omega arith) (omega arith),
     )
-    (sym (upper-reads (reads a.s 64 a.a f.a.fits) (reads a.t 64 a.b f.b.fits) f.a.fits f.b.fits))
+    (sym (upper_reads (reads a.s 64 a.a f.a.fits) (reads a.t 64 a.b f.b.fits) f.a.fits f.b.fits))
