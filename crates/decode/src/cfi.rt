@@ -7,31 +7,22 @@ use isa::{Access, Instruction, Width};
 use word::field::Fields;
 
 // In the AMO opcode: funct5 01001, then aq and rl, which may be anything.
+#[tactic(auto, unfolding(crate::specs::Cfi::swap_of))]
 pub fn swap(f: Fields) -> Instruction
     ensures { result ≡ swap_of f }
 {
     let aq = f.funct7 / 2 % 2 == 1;
     let rl = f.funct7 % 2 == 1;
-    match (f.funct7 / 4) as u32 * 8 + f.funct3 as u32 {
-        0b01001_010 => Instruction::Memory(
-            Access::Swap(Width::Word, aq, rl),
-            f.rd,
-            f.rs1,
-            f.rs2,
-            0,
-        ),
-        0b01001_011 => Instruction::Memory(
-            Access::Swap(Width::Double, aq, rl),
-            f.rd,
-            f.rs1,
-            f.rs2,
-            0,
-        ),
-        _ => Instruction::Illegal,
-    }
+    let width = match u32::from(f.funct7 / 4) * 8 + u32::from(f.funct3) {
+        0b01001_010 => Width::Word,
+        0b01001_011 => Width::Double,
+        _ => return Instruction::Illegal,
+    };
+    Instruction::Memory(Access::Swap(width, aq, rl), f.rd, f.rs1, f.rs2, 0)
 }
 
 // MOP.R.n is 1 n[4] 00 n[3:2] 0111 n[1:0] in bits 31:20, MOP.RR.n is 1 n[2] 00 n[1:0] 1 in bits 31:25.
+#[tactic(auto, unfolding(crate::specs::Cfi::mop_of))]
 fn mop(w: u32, f: Fields) -> Instruction
     ensures { result ≡ mop_of w f }
 {
@@ -47,6 +38,7 @@ fn mop(w: u32, f: Fields) -> Instruction
 }
 
 // The table of the words that Zicfiss gives a meaning (docs/HART.md, 3.18); every other word is the plain operation.
+#[tactic(auto, unfolding(crate::specs::Cfi::zimop_of))]
 pub fn zimop(w: u32, f: Fields) -> Instruction
     ensures { result ≡ zimop_of w f }
 {

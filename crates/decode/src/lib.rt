@@ -5,7 +5,7 @@ ghost use Rattle.std.specs.Prelude.{false, ◌≡◌};
 ghost use Rattle.decode.specs.Decode.{decode_of, is_privileged};
 
 use isa::Instruction;
-use word::{choice, field, immediate};
+use word::{field, immediate};
 
 // The shadow stack's swap and the words of Zimop.
 mod cfi;
@@ -16,11 +16,12 @@ mod system;
 pub fn privileged(w: u32) -> bool
     ensures { result ≡ is_privileged w }
 {
-    choice::both(w % 128 == 0b1110011, !(w / 4096 % 8 == 0b100))
+    w % 128 == 0b1110011 && w / 4096 % 8 != 0b100
 }
 
 // The instruction that another word names. Each arm takes the word apart for itself: split before the match, every field of every word
 // would be computed, and in an arm the compiler keeps only those that the arm uses.
+#[tactic(auto, using(crate::proofs::Zimops::only_zimop), unfolding(crate::specs::Decode::decode_of))]
 pub fn plain(w: u32) -> Instruction
     ensures { is_privileged w ≡ false → result ≡ decode_of w }
 {
@@ -45,6 +46,7 @@ pub fn plain(w: u32) -> Instruction
 
 // The instruction that a word names. SYSTEM stands apart: most of what takes the slow path is there, and `plain`, which the fast path calls too, is too
 // large to be compiled into both (docs/SPEED.md).
+#[tactic(auto, unfolding(crate::specs::Decode::decode_of))]
 pub fn decode(w: u32) -> Instruction
     ensures { result ≡ decode_of w }
 {

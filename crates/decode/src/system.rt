@@ -6,43 +6,26 @@ use super::cfi::zimop;
 use isa::{CsrOperation, CsrSource, Instruction};
 use word::field::Fields;
 
+#[tactic(auto, unfolding(crate::specs::System::decode_csr_of))]
 fn csr(w: u32, f: Fields) -> Instruction
     ensures { result ≡ decode_csr_of w f }
 {
-    let number = (w / 1048576 % 4096) as u16;
-    let funct3 = f.funct3;
-    match funct3 {
-        0b001 => Instruction::Csr(
-            CsrOperation::Write,
-            CsrSource::Register(f.rs1),
-            f.rd,
-            number,
-        ),
-        0b010 => Instruction::Csr(CsrOperation::Set, CsrSource::Register(f.rs1), f.rd, number),
-        0b011 => Instruction::Csr(
-            CsrOperation::Clear,
-            CsrSource::Register(f.rs1),
-            f.rd,
-            number,
-        ),
-        0b101 => Instruction::Csr(
-            CsrOperation::Write,
-            CsrSource::Immediate(f.rs1),
-            f.rd,
-            number,
-        ),
-        0b110 => Instruction::Csr(CsrOperation::Set, CsrSource::Immediate(f.rs1), f.rd, number),
-        0b111 => Instruction::Csr(
-            CsrOperation::Clear,
-            CsrSource::Immediate(f.rs1),
-            f.rd,
-            number,
-        ),
-        0b100 => zimop(w, f),
-        _ => Instruction::Illegal,
-    }
+    let register = CsrSource::Register(f.rs1);
+    let immediate = CsrSource::Immediate(f.rs1);
+    let (operation, source) = match f.funct3 {
+        0b001 => (CsrOperation::Write, register),
+        0b010 => (CsrOperation::Set, register),
+        0b011 => (CsrOperation::Clear, register),
+        0b101 => (CsrOperation::Write, immediate),
+        0b110 => (CsrOperation::Set, immediate),
+        0b111 => (CsrOperation::Clear, immediate),
+        0b100 => return zimop(w, f),
+        _ => return Instruction::Illegal,
+    };
+    Instruction::Csr(operation, source, f.rd, (w / 1048576 % 4096) as u16)
 }
 
+#[tactic(auto, unfolding(crate::specs::System::system_of))]
 pub fn system(w: u32, f: Fields) -> Instruction
     ensures { result ≡ system_of w f }
 {

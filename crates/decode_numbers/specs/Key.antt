@@ -87,6 +87,11 @@ swap_key Half = 0b0100100_00000_001
 swap_key Word = 0b0100100_00000_010
 swap_key Double = 0b0100100_00000_011
 
+abbrev pub csr_operation_key : CsrOperation → ℕ
+csr_operation_key Write = 0b001
+csr_operation_key Set = 0b010
+csr_operation_key Clear = 0b011
+
 abbrev pub csr_key : CsrOperation → CsrSource → ℕ
 csr_key Write (Register r) = 0b001
 csr_key Set (Register r) = 0b010

@@ -1,6 +1,6 @@
 -- A decoded instruction as eight numbers, one layout for all families: the family, its operation, rd, rs1, rs2, the immediate, and two
 -- for what is left. What a family does not have is 0. include/sporhulma.h explains them for C. Rules 12.2 and 12.4 of docs/HART.md.
-use Rattle.std.specs.Prelude.{Bool, true, false, ℕ}
+use Rattle.std.specs.Prelude.{Bool, true, false, ℕ, List, [], ◌∷◌, get_or}
 use Rattle.isa.specs.declared.Access.{Access}
 use Rattle.isa.specs.declared.Access.TheVariants.{Load, Store, Push, Pop, Swap}
 use Rattle.isa.specs.declared.CsrSource.{CsrSource}
@@ -14,6 +14,16 @@ use Rattle.decode_numbers.specs.Key.{condition_key, operation_key, word_operatio
 abbrev pub eight_of : (family operation rd rs1 rs2 immediate first second : ℕ) → Eight
 eight_of f o d a b i p q =
     record { family = f; operation = o; rd = d; rs1 = a; rs2 = b; immediate = i; first = p; second = q }
+
+-- eight words of a host as an instruction's numbers
+abbrev pub eight_at : List ℕ → Eight
+eight_at l =
+    eight_of (get_or l 0 0) (get_or l 1 0) (get_or l 2 0) (get_or l 3 0) (get_or l 4 0) (get_or l 5 0) (get_or l 6 0) (get_or l 7 0)
+
+-- and an instruction's numbers as eight words: family, operation, rd, rs1, rs2, immediate, and the two for what is left
+abbrev pub list_of : Eight → List ℕ
+list_of n =
+    n.family ∷ n.operation ∷ n.rd ∷ n.rs1 ∷ n.rs2 ∷ n.immediate ∷ n.first ∷ n.second ∷ []
 
 -- bits 19:15 of a CSR instruction: a register's number, or the number itself
 abbrev pub source_of : CsrSource → ℕ

@@ -3,15 +3,21 @@
 #![tactic(auto)]
 
 ghost use Rattle.std.specs.Prelude.{◌≡◌};
-ghost use Rattle.decode_numbers.specs.Numbers.{eight_of, source_of, ordering_bit, access_numbers, numbers_of};
+ghost use Rattle.decode_numbers.specs.Family.{family_number};
+ghost use Rattle.decode_numbers.specs.Numbers.{eight_of, eight_at, list_of, source_of, access_numbers, numbers_of};
 
+pub use families::{Family, NoFamily};
 use isa::{Access, CsrSource, Instruction};
+use key::Key;
 
+// The families of instructions.
+mod families;
 // The numbers of operations.
 mod key;
 
-#[derive(Clone, Copy)]
+#[derive(Clone, Copy, PartialEq, Eq)]
 pub struct Eight {
+    // any number, as C hands it in; below 24 it is a `Family`
     pub family: u64,
     pub operation: u64,
     pub rd: u64,
@@ -22,54 +28,77 @@ pub struct Eight {
     pub second: u64,
 }
 
-fn row(
-    family: u64,
-    operation: u64,
-    rd: u8,
-    rs1: u8,
-    rs2: u8,
-    immediate: u64,
-    first: u64,
-    second: u64,
-) -> Eight
-    ensures { result ≡ eight_of family operation rd rs1 rs2 immediate first second }
+impl From<[u64; 8]> for Eight {
+    ghost from_gives = { λ l n. n ≡ eight_at l };
+
+    fn from(words: [u64; 8]) -> Eight {
+        let [family, operation, rd, rs1, rs2, immediate, first, second] = words;
+        Eight {
+            family,
+            operation,
+            rd,
+            rs1,
+            rs2,
+            immediate,
+            first,
+            second,
+        }
+    }
+}
+
+impl From<Eight> for [u64; 8] {
+    ghost from_gives = { λ n l. l ≡ list_of n };
+
+    fn from(n: Eight) -> [u64; 8] {
+        [
+            n.family,
+            n.operation,
+            n.rd,
+            n.rs1,
+            n.rs2,
+            n.immediate,
+            n.first,
+            n.second,
+        ]
+    }
+}
+
+// The numbers of a family without a first and a second.
+fn row(family: Family, operation: u64, rd: u8, rs1: u8, rs2: u8, immediate: u64) -> Eight
+    ensures { result ≡ eight_of (family_number family) operation rd rs1 rs2 immediate 0 0 }
 {
     Eight {
-        family,
+        family: u64::from(family),
         operation,
-        rd: rd as u64,
-        rs1: rs1 as u64,
-        rs2: rs2 as u64,
+        rd: u64::from(rd),
+        rs1: u64::from(rs1),
+        rs2: u64::from(rs2),
         immediate,
-        first,
-        second,
+        first: 0,
+        second: 0,
     }
 }
 
 fn source(s: CsrSource) -> u8
     ensures { result ≡ source_of s }
 {
-    match s {
-        CsrSource::Register(r) => r,
-        CsrSource::Immediate(n) => n,
-    }
-}
-
-fn flag(b: bool) -> u64
-    ensures { result ≡ ordering_bit b }
-{
-    if b { 1 } else { 0 }
+    let (CsrSource::Register(n) | CsrSource::Immediate(n)) = s;
+    n
 }
 
 fn access(a: Access, rd: u8, rs1: u8, rs2: u8, offset: u64) -> Eight
     ensures { result ≡ access_numbers a rd rs1 rs2 offset }
 {
     match a {
-        Access::Load(w, signed) => row(6, key::load(w, signed), rd, rs1, rs2, offset, 0, 0),
-        Access::Store(w) => row(7, key::width(w), rd, rs1, rs2, offset, 0, 0),
-        Access::Push => row(19, 0, rd, rs1, rs2, offset, 0, 0),
-        Access::Pop => row(20, 0, rd, rs1, rs2, offset, 0, 0),
-        Access::Swap(w, aq, rl) => row(21, key::swap(w), rd, rs1, rs2, offset, flag(aq), flag(rl)),
+        Access::Load(w, signed) => row(Family::Load, key::load(w, signed), rd, rs1, rs2, offset),
+        Access::Store(w) => row(Family::Store, w.key(), rd, rs1, rs2, offset),
+        Access::Push => row(Family::Push, 0, rd, rs1, rs2, offset),
+        Access::Pop => row(Family::Pop, 0, rd, rs1, rs2, offset),
+        Access::Swap(w, aq, rl) => Eight {
+            first: u64::from(aq),
+            second: u64::from(rl),
+            ..row(Family::Swap, key::swap(w), rd, rs1, rs2, offset)
+        },
     }
 }
 
@@ -77,36 +106,32 @@ pub fn of_instruction(i: Instruction) -> Eight
     ensures { result ≡ numbers_of i }
 {
     match i {
-        Instruction::Illegal => row(0, 0, 0, 0, 0, 0, 0, 0),
-        Instruction::Lui(rd, n) => row(1, 0, rd, 0, 0, n, 0, 0),
-        Instruction::Auipc(rd, n) => row(2, 0, rd, 0, 0, n, 0, 0),
-        Instruction::Jal(rd, n) => row(3, 0, rd, 0, 0, n, 0, 0),
-        Instruction::Jalr(rd, rs1, n) => row(4, 0, rd, rs1, 0, n, 0, 0),
-        Instruction::Branch(c, rs1, rs2, n) => row(5, key::condition(c), 0, rs1, rs2, n, 0, 0),
+        Instruction::Illegal => row(Family::Illegal, 0, 0, 0, 0, 0),
+        Instruction::Lui(rd, n) => row(Family::Lui, 0, rd, 0, 0, n),
+        Instruction::Auipc(rd, n) => row(Family::Auipc, 0, rd, 0, 0, n),
+        Instruction::Jal(rd, n) => row(Family::Jal, 0, rd, 0, 0, n),
+        Instruction::Jalr(rd, rs1, n) => row(Family::Jalr, 0, rd, rs1, 0, n),
+        Instruction::Branch(c, rs1, rs2, n) => row(Family::Branch, c.key(), 0, rs1, rs2, n),
         Instruction::Memory(a, rd, rs1, rs2, n) => access(a, rd, rs1, rs2, n),
-        Instruction::OpImm(o, rd, rs1, n) => row(8, key::operation(o), rd, rs1, 0, n, 0, 0),
-        Instruction::OpImm32(o, rd, rs1, n) => row(9, key::word_operation(o), rd, rs1, 0, n, 0, 0),
-        Instruction::Op(o, rd, rs1, rs2) => row(10, key::operation(o), rd, rs1, rs2, 0, 0, 0),
-        Instruction::Op32(o, rd, rs1, rs2) => row(
-            11,
-            key::word_operation(o),
-            rd,
-            rs1,
-            rs2,
-            0,
-            0,
-            0,
-        ),
-        Instruction::Fence(fm, p, s, rs1, rd) => row(
-            12, fm as u64, rd, rs1, 0, 0, p as u64, s as u64,
-        ),
-        Instruction::Ecall => row(13, 0, 0, 0, 0, 0, 0, 0),
-        Instruction::Ebreak => row(14, 0, 0, 0, 0, 0, 0, 0),
-        Instruction::Sret => row(15, 0, 0, 0, 0, 0, 0, 0),
-        Instruction::Mret => row(16, 0, 0, 0, 0, 0, 0, 0),
-        Instruction::Csr(o, s, rd, n) => row(17, key::csr(o, s), rd, source(s), 0, 0, n as u64, 0),
-        Instruction::ReadSsp(rd) => row(18, 0, rd, 0, 0, 0, 0, 0),
-        Instruction::MopR(n, rd, rs1) => row(22, n as u64, rd, rs1, 0, 0, 0, 0),
-        Instruction::MopRr(n, rd, rs1, rs2) => row(23, n as u64, rd, rs1, rs2, 0, 0, 0),
+        Instruction::OpImm(o, rd, rs1, n) => row(Family::OpImm, o.key(), rd, rs1, 0, n),
+        Instruction::OpImm32(o, rd, rs1, n) => row(Family::OpImm32, o.key(), rd, rs1, 0, n),
+        Instruction::Op(o, rd, rs1, rs2) => row(Family::Op, o.key(), rd, rs1, rs2, 0),
+        Instruction::Op32(o, rd, rs1, rs2) => row(Family::Op32, o.key(), rd, rs1, rs2, 0),
+        Instruction::Fence(fm, p, s, rs1, rd) => Eight {
+            first: u64::from(p),
+            second: u64::from(s),
+            ..row(Family::Fence, u64::from(fm), rd, rs1, 0, 0)
+        },
+        Instruction::Ecall => row(Family::Ecall, 0, 0, 0, 0, 0),
+        Instruction::Ebreak => row(Family::Ebreak, 0, 0, 0, 0, 0),
+        Instruction::Sret => row(Family::Sret, 0, 0, 0, 0, 0),
+        Instruction::Mret => row(Family::Mret, 0, 0, 0, 0, 0),
+        Instruction::Csr(o, s, rd, n) => Eight {
+            first: u64::from(n),
+            ..row(Family::Csr, key::csr(o, s), rd, source(s), 0, 0)
+        },
+        Instruction::ReadSsp(rd) => row(Family::ReadSsp, 0, rd, 0, 0, 0),
+        Instruction::MopR(n, rd, rs1) => row(Family::MopR, u64::from(n), rd, rs1, 0, 0),
+        Instruction::MopRr(n, rd, rs1, rs2) => row(Family::MopRr, u64::from(n), rd, rs1, rs2, 0),
     }
 }

@@ -18,8 +18,7 @@ use Rattle.isa.specs.declared.Instruction.{Instruction}
 use Rattle.isa.specs.declared.Instruction.TheVariants.{Illegal, Lui, Auipc, Jal, Jalr, Branch, Memory, OpImm, OpImm32, Op, Op32, Fence, Ecall}
 use Rattle.isa.specs.declared.Instruction.TheVariants.{Ebreak, Sret, Mret, Csr, ReadSsp, MopR, MopRr}
 use Rattle.decode_numbers.specs.Numbers.{numbers_of}
-use Rattle.decode_writer.specs.declared.Written.{Written}
-use Rattle.decode_writer.specs.declared.Written.TheVariants.{Word, Refused}
+use Rattle.std.specs.Prelude.{Option, Some, None}
 use Rattle.decode_writer.specs.Pack.{pack_of}
 use Rattle.decode_writer.specs.Promise.{Reads, Answers}
 use Rattle.decode_writer.proofs.Decoded.{decoded_back}
@@ -119,13 +118,13 @@ module _ (w : ℕ) where
 
 -- a distance out of reach is refused
 pub branch_refused :
-    (c : Condition) (a b o : ℕ) → (InReach 13 o → ⊥) → (r : Written) → Answers (Branch c a b o) r → r ≡ Refused
-branch_refused c a b o n (Word w) p = absurd (n (branch_reach w c a b o p))
-branch_refused c a b o n Refused p = refl
+    (c : Condition) (a b o : ℕ) → (InReach 13 o → ⊥) → (r : Option ℕ) → Answers (Branch c a b o) r → r ≡ None
+branch_refused c a b o n (Some w) p = absurd (n (branch_reach w c a b o p))
+branch_refused c a b o n None p = refl
 
-pub jump_refused : (d o : ℕ) → (InReach 21 o → ⊥) → (r : Written) → Answers (Jal d o) r → r ≡ Refused
-jump_refused d o n (Word w) p = absurd (n (jump_reach w d o p))
-jump_refused d o n Refused p = refl
+pub jump_refused : (d o : ℕ) → (InReach 21 o → ⊥) → (r : Option ℕ) → Answers (Jal d o) r → r ≡ None
+jump_refused d o n (Some w) p = absurd (n (jump_reach w d o p))
+jump_refused d o n None p = refl
 
 pub branch_legal : (c : Condition) (a b o : ℕ) → Branch c a b o ≡ Illegal → ⊥
 branch_legal c a b o z = let e : ◌≡◌ {A = ℕ} 5 0 = ap (λ (i : Instruction). (numbers_of i).family) z in absurd (omega arith)

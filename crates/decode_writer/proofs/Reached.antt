@@ -17,8 +17,7 @@ use Rattle.isa.specs.declared.Condition.{Condition}
 use Rattle.isa.specs.declared.Condition.TheVariants.{Equal, NotEqual, Less, NotLess, LessUnsigned, NotLessUnsigned}
 use Rattle.isa.specs.declared.Instruction.TheVariants.{Branch}
 use Rattle.decode_numbers.specs.Key.{condition_key}
-use Rattle.decode_writer.specs.declared.Written.{Written}
-use Rattle.decode_writer.specs.declared.Written.TheVariants.{Word}
+use Rattle.std.specs.Prelude.{Option, Some}
 use Rattle.decode_writer.specs.Promise.{Reads, Answers}
 use Rattle.decode_writer.proofs.Formats.{join, part}
 use Rattle.decode_writer.proofs.Promised.{one_answer}
@@ -200,5 +199,5 @@ module _ (c : Condition) (a b o : ℕ) (ha : a < 2 ^ 5) (hb : b < 2 ^ 5) (h : o 
   )
 
   -- so a branch in reach is never refused
-  pub branch_written : (s : Written) → Answers (Branch c a b o) s → s ≡ Word word
-  branch_written s p = one_answer (Branch c a b o) s (Word word) p branch_word
+  pub branch_written : (s : Option ℕ) → Answers (Branch c a b o) s → s ≡ Some word
+  branch_written s p = one_answer (Branch c a b o) s (Some word) p branch_word

@@ -1,4 +1,3 @@
 pub mod Format
 pub mod Pack
-pub mod Same
 pub mod Promise

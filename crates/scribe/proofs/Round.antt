@@ -6,7 +6,7 @@ use mathlib.Core.Path.{◌≡◌, refl, sym, ◌∙◌}
 use Prim.Native.Nat.{ℕ, ◌^◌, ◌<◌}
 use native.Mathlib.Omega.{arith}
 use Rattle.decode_writer.proofs.Answer.{packed}
-use Rattle.scribe.specs.Words.{eight_at}
+use Rattle.decode_numbers.specs.Numbers.{eight_at}
 use Rattle.scribe.specs.Boundary.{read_left, read_result, Gives, Wrote}
 use Rattle.scribe.proofs.Lists.{given}
 

@@ -1,14 +1,8 @@
 -- The calls for C: what a read leaves, and what a write promises, in terms of a read alone. Rules 12.5 and 12.6 of docs/HART.md.
-use Rattle.std.specs.Prelude.{List, [], ◌∷◌, ◌⊎◌, ◌≡◌, ℕ, ◌^◌, ◌<◌}
+use Rattle.std.specs.Prelude.{List, ◌⊎◌, ◌≡◌, ℕ, ◌^◌, ◌<◌}
 use Rattle.word.specs.Choice.{Table, ◌⇒◌¦◌, otherwise, look}
 use Rattle.decode.specs.Decode.{decode_of}
-use Rattle.decode_numbers.specs.declared.Eight.{Eight}
-use Rattle.decode_numbers.specs.Numbers.{numbers_of}
-
--- family, operation, rd, rs1, rs2, immediate, and the two for what is left
-abbrev pub list_of : Eight → List ℕ
-list_of n =
-    n.family ∷ n.operation ∷ n.rd ∷ n.rs1 ∷ n.rs2 ∷ n.immediate ∷ n.first ∷ n.second ∷ []
+use Rattle.decode_numbers.specs.Numbers.{list_of, numbers_of}
 
 -- a read leaves the numbers of what the word names: eight zeros where that is no legal instruction
 abbrev pub read_left : ℕ → List ℕ

@@ -5,45 +5,22 @@
 ghost use Rattle.std.specs.Prelude.{◌≤◌};
 
 use decode::decode;
-use decode_numbers::{Eight, of_instruction};
-use decode_writer::{Written, write_numbers};
-use isa::Instruction;
+use decode_numbers::of_instruction;
+use decode_writer::write_numbers;
 use test_lines::line::MOST;
 use test_lines::row;
-
-fn written(n: Eight) -> u64 {
-    match write_numbers(n) {
-        Written::Word(w) => w as u64,
-        Written::Refused => 0,
-    }
-}
-
-fn shown(i: Instruction) -> [u64; 9] {
-    let n = of_instruction(i);
-    [
-        n.family,
-        n.operation,
-        n.rd,
-        n.rs1,
-        n.rs2,
-        n.immediate,
-        n.first,
-        n.second,
-        written(n),
-    ]
-}
 
 pub fn run(n: &[u64], got: &mut [u64; MOST]) -> usize
     ensures { result ≤ 9 }
 {
-    let word = row::at(n, 0);
-    if n.len() != 1 {
+    let &[word] = n else {
         return 0;
-    }
-    if word > 0xffff_ffff {
+    };
+    let Ok(word) = u32::try_from(word) else {
         return 0;
-    }
-    let numbers = shown(decode(word as u32));
-    row::copy(got, 0, &numbers);
+    };
+    let numbers = of_instruction(decode(word));
+    row::copy(got, 0, &<[u64; 8]>::from(numbers));
+    row::put(got, 8, write_numbers(numbers).map_or(0, u64::from));
     9
 }

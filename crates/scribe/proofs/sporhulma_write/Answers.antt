@@ -2,6 +2,5 @@
 use Rattle.scribe.proofs.Lists.{wrote_word}
 use Rattle.scribe.proofs.sporhulma_write.Goals as goal
 
-pub returns-in-Word : goal.returns-in-Word
-returns-in-Word c = wrote_word _ _ _ _ c.eight.ensures c.of_words.ensures
-    c.write_numbers.ensures _ c.in-Word.is
+pub returns : goal.returns
+returns c = wrote_word _ _ _ c.told-instruction c.from.ensures c.write_numbers.ensures _ c.in-Some.is

@@ -1,4 +1,4 @@
--- The first of the eight numbers is what `sporhulma_family` answers.
+-- The first of the eight numbers is the family that `family_of` says.
 -- Assumes nothing.
 use mathlib.Core.Path.{◌≡◌, refl}
 use Rattle.isa.specs.declared.Access.TheVariants.{Load, Store, Push, Pop, Swap}

@@ -1,0 +1,2 @@
+-- The laws of the families.
+pub mod Families
