@@ -7,6 +7,8 @@
 
 // How many bytes an access moves.
 pub mod size;
+// The numbers of modes.
+mod mode_number;
 
 // How many bytes an access moves: 1, 2, 4 or 8.
 #[derive(Clone, Copy)]
