@@ -2,12 +2,13 @@
 -- Assumes nothing.
 use mathlib.Core.Path.{◌≡◌, refl}
 use mathlib.Core.Bool.{Bool, true, false}
-use Prim.Native.Nat.{ℕ}
+use Prim.Native.Nat.{ℕ, ◌^◌, ◌<◌}
 use lib.Dec.{eqb}
 use borrow.Author.Tests.{eqb-true}
 use Rattle.word.proofs.Bools.{both}
-use Rattle.word.specs.Row.{row_legal_of}
-use Rattle.word.proofs.Rows.{bits_of, all_fit, well_made, all_seen_of}
+use Rattle.word.specs.Row.{row_write_of, row_legal_of}
+use Rattle.word.proofs.Rows.{bits_of, all_fit, well_made, all_seen_of, passes}
+use Rattle.csr_status.specs.Fields.{mstatus}
 use Rattle.csr.specs.Row.{row_of}
 use Rattle.csr.specs.declared.Csr.{Csr}
 use Rattle.csr.specs.declared.Csr.TheVariants.{Ssp, Sstatus, Stvec, Senvcfg, Sscratch, Sepc, Scause, Stval, Satp, Mstatus, Medeleg, Mtvec}
@@ -103,3 +104,54 @@ alike Mseccfg sse m = refl
 
 pub sixty_four : (n : Csr) (sse : Bool) → bits_of (row_of n sse) ≡ 64
 sixty_four n sse = eqb-true (bits_of (row_of n sse)) 64 (both (all_fit (row_of n sse)) (eqb (bits_of (row_of n sse)) 64) (well_made_lem n sse)).1
+
+-- 0 is a word that every CSR but mstatus can hold
+pub zero_legal : (n : Csr) → (n ≡ Sstatus → ⊥) → (n ≡ Mstatus → ⊥) → row_legal_of (row_of n true) 0 ≡ true
+zero_legal Ssp s m = refl
+zero_legal Sstatus s m = absurd (s refl)
+zero_legal Stvec s m = refl
+zero_legal Senvcfg s m = refl
+zero_legal Sscratch s m = refl
+zero_legal Sepc s m = refl
+zero_legal Scause s m = refl
+zero_legal Stval s m = refl
+zero_legal Satp s m = refl
+zero_legal Mstatus s m = absurd (m refl)
+zero_legal Medeleg s m = refl
+zero_legal Mtvec s m = refl
+zero_legal Menvcfg s m = refl
+zero_legal Mscratch s m = refl
+zero_legal Mepc s m = refl
+zero_legal Mcause s m = refl
+zero_legal Mtval s m = refl
+zero_legal Mseccfg s m = refl
+
+viewless : (n : Csr) → (n ≡ Sstatus → ⊥) → is_view n ≡ false
+viewless Ssp s = refl
+viewless Sstatus s = absurd (s refl)
+viewless Stvec s = refl
+viewless Senvcfg s = refl
+viewless Sscratch s = refl
+viewless Sepc s = refl
+viewless Scause s = refl
+viewless Stval s = refl
+viewless Satp s = refl
+viewless Mstatus s = refl
+viewless Medeleg s = refl
+viewless Mtvec s = refl
+viewless Menvcfg s = refl
+viewless Mscratch s = refl
+viewless Mepc s = refl
+viewless Mcause s = refl
+viewless Mtval s = refl
+viewless Mseccfg s = refl
+
+-- so what it can hold is what a write over 0 leaves
+pub tested : (n : Csr) (m w : ℕ) → (n ≡ Sstatus → ⊥) → (n ≡ Mstatus → ⊥) → m < 2 ^ 64 → w ≡ row_write_of (row_of n true) 0 m
+    → eqb w m ≡ row_legal_of (row_of n true) m
+tested n m w s t l e =
+    passes (row_of n true) 0 m w (all_fit_lem n true) (all_seen n (viewless n s)) (zero_legal n s t) (rw (sixty_four n true) l) e
+
+-- and what mstatus can hold is what a write over its word with nothing set leaves
+pub tested_status : (m w : ℕ) → m < 2 ^ 64 → w ≡ row_write_of mstatus 0xA00000000 m → eqb w m ≡ row_legal_of mstatus m
+tested_status m w l e = passes mstatus 0xA00000000 m w refl refl refl l e

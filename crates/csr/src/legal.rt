@@ -1,46 +1,19 @@
-// Which words a CSR can hold: exactly those that a write of them, over a word that it can hold, leaves as they are.
-ghost use Rattle.std.specs.Prelude.{◌≡◌};
+// Which words a CSR can hold.
+ghost use Rattle.std.specs.Prelude.{◌≡◌, true};
 ghost use Rattle.word.specs.Row.{row_legal_of};
-ghost use Rattle.csr_status.specs.Fields.{mstatus};
-ghost use Rattle.csr.specs.Row.{medeleg, fours, satp, envcfg, mseccfg};
+ghost use Rattle.csr.specs.Row.{row_of};
 
-use super::row;
-use csr_status::warl;
+use super::{Csr, warl};
+use csr_status::warl as mstatus;
 
-// Over mstatus with nothing set, UXL and SXL 2.
-pub fn mstatus(m: u64) -> bool
-    ensures { result ≡ row_legal_of mstatus m }
+// Whether CSR n can hold the word m: exactly where a write of m, over a word that it can hold, leaves m. Such a word is 0, but for mstatus,
+// of which sstatus is a view: there it is the one with nothing set, UXL and SXL 2.
+#[tactic(auto, using(crate::proofs::Made::tested, crate::proofs::Made::tested_status))]
+pub fn legal(n: Csr, m: u64) -> bool
+    ensures { result ≡ row_legal_of (row_of n true) m }
 {
-    warl::write(0xa_0000_0000, m) == m
-}
-
-pub fn medeleg(m: u64) -> bool
-    ensures { result ≡ row_legal_of medeleg m }
-{
-    row::medeleg(m) == m
-}
-
-pub fn fours(m: u64) -> bool
-    ensures { result ≡ row_legal_of fours m }
-{
-    row::fours(m) == m
-}
-
-pub fn satp(m: u64) -> bool
-    ensures { result ≡ row_legal_of satp m }
-{
-    row::satp(0, m) == m
-}
-
-// menvcfg and senvcfg.
-pub fn envcfg(m: u64) -> bool
-    ensures { result ≡ row_legal_of envcfg m }
-{
-    row::envcfg(0, m) == m
-}
-
-pub fn mseccfg(m: u64) -> bool
-    ensures { result ≡ row_legal_of mseccfg m }
-{
-    row::mseccfg(0, m) == m
+    match n {
+        Csr::Sstatus | Csr::Mstatus => mstatus::write(0xa_0000_0000, m) == m,
+        _ => warl::write(n, true, 0, m) == m,
+    }
 }

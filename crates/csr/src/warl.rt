@@ -11,24 +11,16 @@ pub fn write(n: Csr, sse: bool, old: u64, v: u64) -> u64
     ensures { result ≡ row_write_of (row_of n sse) old v }
 {
     match n {
-        Csr::Ssp => row::eights(v),
+        Csr::Ssp => row::multiple::<8>(v),
+        Csr::Stvec | Csr::Sepc | Csr::Mtvec | Csr::Mepc => row::multiple::<4>(v),
+        Csr::Sscratch | Csr::Scause | Csr::Stval | Csr::Mscratch | Csr::Mcause | Csr::Mtval => v,
         Csr::Sstatus => mstatus::write_view(old, v),
-        Csr::Stvec => row::fours(v),
-        Csr::Senvcfg => row::senvcfg(sse, old, v),
-        Csr::Sscratch => row::any(v),
-        Csr::Sepc => row::fours(v),
-        Csr::Scause => row::any(v),
-        Csr::Stval => row::any(v),
-        Csr::Satp => row::satp(old, v),
         Csr::Mstatus => mstatus::write(old, v),
         Csr::Medeleg => row::medeleg(v),
-        Csr::Mtvec => row::fours(v),
-        Csr::Menvcfg => row::envcfg(old, v),
-        Csr::Mscratch => row::any(v),
-        Csr::Mepc => row::fours(v),
-        Csr::Mcause => row::any(v),
-        Csr::Mtval => row::any(v),
+        Csr::Senvcfg => row::envcfg(sse, old, v),
+        Csr::Menvcfg => row::envcfg(true, old, v),
         Csr::Mseccfg => row::mseccfg(old, v),
+        Csr::Satp => row::satp(old, v),
     }
 }
 
@@ -37,23 +29,15 @@ pub fn read(n: Csr, sse: bool, m: u64) -> u64
     ensures { result ≡ row_read_of (row_of n sse) m }
 {
     match n {
-        Csr::Ssp => row::eights(m),
+        Csr::Ssp => row::multiple::<8>(m),
+        Csr::Stvec | Csr::Sepc | Csr::Mtvec | Csr::Mepc => row::multiple::<4>(m),
+        Csr::Sscratch | Csr::Scause | Csr::Stval | Csr::Mscratch | Csr::Mcause | Csr::Mtval => m,
         Csr::Sstatus => mstatus::view(m),
-        Csr::Stvec => row::fours(m),
-        Csr::Senvcfg => row::senvcfg_shown(sse, m),
-        Csr::Sscratch => row::any(m),
-        Csr::Sepc => row::fours(m),
-        Csr::Scause => row::any(m),
-        Csr::Stval => row::any(m),
-        Csr::Satp => row::satp_shown(m),
         Csr::Mstatus => mstatus::shown(m),
         Csr::Medeleg => row::medeleg(m),
-        Csr::Mtvec => row::fours(m),
-        Csr::Menvcfg => row::envcfg_shown(m),
-        Csr::Mscratch => row::any(m),
-        Csr::Mepc => row::fours(m),
-        Csr::Mcause => row::any(m),
-        Csr::Mtval => row::any(m),
+        Csr::Senvcfg => row::envcfg_shown(sse, m),
+        Csr::Menvcfg => row::envcfg_shown(true, m),
         Csr::Mseccfg => row::mseccfg_shown(m),
+        Csr::Satp => row::satp_shown(m),
     }
 }

@@ -10,8 +10,7 @@ use Rattle.csr_access.specs.Reach.{addresses, below, reach_of}
 use Rattle.csr.specs.declared.Csr.{Csr}
 use Rattle.csr.specs.declared.Csr.TheVariants.{Ssp, Sstatus, Stvec, Senvcfg, Sscratch, Sepc, Scause, Stval, Satp, Mstatus, Medeleg, Mtvec, Menvcfg}
 use Rattle.csr.specs.declared.Csr.TheVariants.{Mscratch, Mepc, Mcause, Mtval, Mseccfg}
-use Rattle.csr_access.specs.declared.reach.Reached.{Reached}
-use Rattle.csr_access.specs.declared.reach.Reached.TheVariants.{To, Illegal}
+use Rattle.std.specs.Prelude.{Option, Some, None}
 
 abbrev is_ssp : Csr → Bool
 is_ssp Ssp = true
@@ -33,12 +32,12 @@ is_ssp Mcause = false
 is_ssp Mtval = false
 is_ssp Mseccfg = false
 
-abbrev harmless : Reached → Bool
-harmless (To n) = is_ssp n
-harmless Illegal = true
+abbrev harmless : Option Csr → Bool
+harmless (Some n) = is_ssp n
+harmless None = true
 
 -- the test of a row: U is below its address, or it gives nothing but ssp
-abbrev test : ℕ → Reached → Bool
+abbrev test : ℕ → Option Csr → Bool
 test address r = below User address || harmless r
 
 table : (permitted : Bool) → every test (addresses permitted) ≡ true
@@ -69,12 +68,12 @@ or_true : (b : Bool) → b || true ≡ true
 or_true true = refl
 or_true false = refl
 
-settled : (b : Bool) (r : Reached) (n : Csr) → b || harmless r ≡ true → pick b Illegal r ≡ To n → n ≡ Ssp
+settled : (b : Bool) (r : Option Csr) (n : Csr) → b || harmless r ≡ true → pick b None r ≡ Some n → n ≡ Ssp
 settled true r n h e = cc
-settled false (To k) n h e = only n (ap (λ (x : Reached). harmless x) (sym e) ∙ h)
-settled false Illegal n h e = cc
+settled false (Some k) n h e = only n (ap (λ (x : Option Csr). harmless x) (sym e) ∙ h)
+settled false None n h e = cc
 
-pub user_ssp : (permitted : Bool) (address : ℕ) (n : Csr) → reach_of User permitted address ≡ To n → n ≡ Ssp
+pub user_ssp : (permitted : Bool) (address : ℕ) (n : Csr) → reach_of User permitted address ≡ Some n → n ≡ Ssp
 unfolding reach_of
 user_ssp permitted address n e =
     settled (below User address) (look address (addresses permitted)) n

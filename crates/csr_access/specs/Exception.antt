@@ -3,7 +3,7 @@
 use Rattle.std.specs.Prelude.{ℕ}
 use Rattle.isa.specs.declared.Mode.{Mode}
 use Rattle.isa.specs.declared.Mode.TheVariants.{User, Supervisor, Machine}
-use Rattle.csr_access.specs.declared.exception.Exception.{Exception}
+use Rattle.isa.specs.declared.Exception.{Exception}
 
 -- illegal: tval the word; the manual's cause is 2
 abbrev pub illegal_of : (word : ℕ) → Exception

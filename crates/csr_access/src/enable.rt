@@ -16,12 +16,7 @@ fn by_sse(m: Mode, machine: bool, msse: bool, ssse: bool) -> bool
     ensures { result ≡ by_sse_of m machine msse ssse }
 {
     match m {
-        Mode::User => {
-            if msse {
-                return ssse;
-            }
-            false
-        }
+        Mode::User => msse && ssse,
         Mode::Supervisor => msse,
         Mode::Machine => machine,
     }
@@ -31,14 +26,14 @@ fn by_sse(m: Mode, machine: bool, msse: bool, ssse: bool) -> bool
 pub fn shadow(m: Mode, menvcfg: u64, senvcfg: u64) -> bool
     ensures { result ≡ shadow_of m menvcfg senvcfg }
 {
-    by_sse(m, false, menvcfg / 8 % 2 == 1, senvcfg / 8 % 2 == 1)
+    by_sse(m, false, sse(menvcfg), sse(senvcfg))
 }
 
 // Whether ssp may be touched as a CSR, and whether the swap is legal.
 pub fn permits(m: Mode, menvcfg: u64, senvcfg: u64) -> bool
     ensures { result ≡ permits_of m menvcfg senvcfg }
 {
-    by_sse(m, true, menvcfg / 8 % 2 == 1, senvcfg / 8 % 2 == 1)
+    by_sse(m, true, sse(menvcfg), sse(senvcfg))
 }
 
 fn by_mode(m: Mode, machine: bool, supervisor: bool, user: bool) -> bool

@@ -2,13 +2,7 @@
 ghost use Rattle.std.specs.Prelude.{◌≡◌};
 ghost use Rattle.csr_access.specs.Exception.{illegal_of, breakpoint_of, ecall_of};
 
-use isa::Mode;
-
-#[derive(Clone, Copy)]
-pub struct Exception {
-    pub cause: u8,
-    pub tval: u64,
-}
+use isa::{Exception, Mode};
 
 // An illegal instruction.
 pub fn illegal(word: u32) -> Exception

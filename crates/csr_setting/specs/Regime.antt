@@ -2,7 +2,7 @@
 use Rattle.std.specs.Prelude.{Bool, ℕ, ◌/◌, ◌^◌, eqb}
 use Rattle.word.specs.Row.{digit}
 use Rattle.address.specs.declared.control.Control.{Control}
-use Rattle.csr_status.specs.Mode.{mode_of}
+use Rattle.isa.specs.Mode.{mode_of}
 use Rattle.csr_status.specs.Status.{status_of}
 use Rattle.csr_trap.specs.Return.{mpp_mode_of}
 use Rattle.csr_access.specs.Enable.{sse_of, shadow_of, pad_of}

@@ -10,8 +10,8 @@ ghost use Rattle.csr_setting.specs.Regime.{control_of, shadow_on, pad_on};
 
 use address::control::Control;
 use csr_access::enable;
-use csr_status::mode;
 use csr_trap::returns;
+use isa::Mode;
 
 // What a hart's mode and CSRs say about an instruction, beside its accesses: the active shadow enable, whether ssp
 // may be touched as a CSR (and the swap is legal), and the pad enable.
@@ -24,6 +24,7 @@ pub struct Setting {
 }
 
 // The regime of accesses.
+#[tactic(auto, unfolding(crate::specs::Regime::control_of))]
 pub fn control(
     mode: u64,
     mstatus: u64,
@@ -35,7 +36,7 @@ pub fn control(
     ensures { result ≡ control_of mode mstatus satp menvcfg senvcfg mseccfg }
 {
     Control {
-        mode: mode::mode(mode),
+        mode: Mode::from(mode),
         mprv: mstatus / 0x2_0000 % 2 == 1,
         mpp: returns::mpp_mode(mstatus),
         sv39: satp / 0x1000_0000_0000_0000 == 8,
@@ -49,15 +50,17 @@ pub fn control(
 }
 
 // The active shadow enable.
+#[tactic(auto, unfolding(crate::specs::Regime::shadow_on))]
 pub fn shadow(mode: u64, menvcfg: u64, senvcfg: u64) -> bool
     ensures { result ≡ shadow_on mode menvcfg senvcfg }
 {
-    enable::shadow(mode::mode(mode), menvcfg, senvcfg)
+    enable::shadow(Mode::from(mode), menvcfg, senvcfg)
 }
 
 // The pad enable.
+#[tactic(auto, unfolding(crate::specs::Regime::pad_on))]
 pub fn pad(mode: u64, menvcfg: u64, senvcfg: u64, mseccfg: u64) -> bool
     ensures { result ≡ pad_on mode menvcfg senvcfg mseccfg }
 {
-    enable::pad(mode::mode(mode), menvcfg, senvcfg, mseccfg)
+    enable::pad(Mode::from(mode), menvcfg, senvcfg, mseccfg)
 }

@@ -36,13 +36,6 @@ views old v = simp num_bit (omega arith)
 pub shows : (m : ℕ) → row_read_of mstatus m ≡ status_word_of (status_of m)
 shows m = simp num_bit (omega arith)
 
--- as the code goes
-pub written : (old v mode w : ℕ) (s t : Status) → s ≡ status_of v → mode ≡ (mstatus_written_of (status_of old) (status_of v)).mpp → t ≡ with_mpp_of s mode → w
-    ≡ status_word_of t
-    → w ≡ row_write_of mstatus old v
-written old v mode w s t a b c d =
-    d ∙ ap status_word_of (c ∙ ap (λ (x : Status). with_mpp_of x mode) a ∙ ap (λ (k : ℕ). with_mpp_of (status_of v) k) b) ∙ sym (merges old v)
-
 -- the digits of the sum
 module _ (a b c d e p f g h i j : ℕ) (ha : a < 2) (hb : b < 2) (hc : c < 2) (hd : d < 2) (he : e < 2) (hp : p < 4) (hf : f < 2) (hg : g < 2)
     (hh : h < 2)

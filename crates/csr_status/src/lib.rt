@@ -2,7 +2,6 @@
 // Modes and their numbers stand here too, since MPP and SPP hold them. What a trap and a return make of it is crate `csr_trap`'s.
 #![tactic(auto)]
 
-pub mod mode;
 pub mod pack;
 pub mod warl;
 

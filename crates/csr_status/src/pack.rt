@@ -1,6 +1,6 @@
-// The struct of mstatus' fields from its word, and the word from the struct.
+// The struct of mstatus' fields from its word, and the word from the struct: two functions and no `From`, since the way back asks that MPP has two bits.
 ghost use Rattle.std.specs.Prelude.{◌≡◌, ◌<◌};
-ghost use Rattle.csr_status.specs.Status.{num, status_of, status_word_of};
+ghost use Rattle.csr_status.specs.Status.{status_of, status_word_of};
 
 use super::Status;
 
@@ -22,26 +22,20 @@ pub fn split(m: u64) -> Status
     }
 }
 
-fn bit(b: bool) -> u64
-    ensures { (result ≡ num b) × (result < 2) }
-{
-    if b { 1 } else { 0 }
-}
-
 pub fn word(s: Status) -> u64
     requires { s.mpp < 4 }
     ensures { result ≡ status_word_of s }
 {
-    bit(s.sie) * 0x2
-        + bit(s.mie) * 0x8
-        + bit(s.spie) * 0x20
-        + bit(s.mpie) * 0x80
-        + bit(s.spp) * 0x100
+    u64::from(s.sie) * 0x2
+        + u64::from(s.mie) * 0x8
+        + u64::from(s.spie) * 0x20
+        + u64::from(s.mpie) * 0x80
+        + u64::from(s.spp) * 0x100
         + s.mpp * 0x800
-        + bit(s.mprv) * 0x2_0000
-        + bit(s.sum) * 0x4_0000
-        + bit(s.mxr) * 0x8_0000
-        + bit(s.spelp) * 0x80_0000
+        + u64::from(s.mprv) * 0x2_0000
+        + u64::from(s.sum) * 0x4_0000
+        + u64::from(s.mxr) * 0x8_0000
+        + u64::from(s.spelp) * 0x80_0000
         + 0xa_0000_0000
-        + bit(s.mpelp) * 0x200_0000_0000
+        + u64::from(s.mpelp) * 0x200_0000_0000
 }

@@ -2,59 +2,38 @@
 ghost use Rattle.std.specs.Prelude.{◌≡◌};
 ghost use Rattle.word.specs.Row.{row_write_of, row_read_of};
 ghost use Rattle.csr_status.specs.Fields.{mstatus, sstatus};
-ghost use Rattle.csr_status.specs.Status.{with_mpp_of, sstatus_written_of};
+ghost use Rattle.csr_status.specs.Status.{sstatus_written_of};
 
 use super::{Status, pack};
 use word::choice;
 
-fn with_mpp(s: Status, mode: u64) -> Status
-    ensures { result ≡ with_mpp_of s mode }
-{
-    Status {
-        sie: s.sie,
-        mie: s.mie,
-        spie: s.spie,
-        mpie: s.mpie,
-        spp: s.spp,
-        mpp: mode,
-        mprv: s.mprv,
-        sum: s.sum,
-        mxr: s.mxr,
-        spelp: s.spelp,
-        mpelp: s.mpelp,
-    }
-}
-
 // What a write of v to mstatus leaves: writing 2 to MPP keeps the old MPP.
+#[tactic(auto, using(crate::proofs::Packed::merges))]
 pub fn write(old: u64, v: u64) -> u64
     ensures { result ≡ row_write_of mstatus old v }
 {
     let mpp = v / 0x800 % 4;
-    pack::word(with_mpp(
-        pack::split(v),
-        choice::taken(mpp != 2, mpp, old / 0x800 % 4, 4),
-    ))
+    pack::word(Status {
+        mpp: choice::taken(mpp != 2, mpp, old / 0x800 % 4, 4),
+        ..pack::split(v)
+    })
 }
 
 fn through(s: Status, v: Status) -> Status
     ensures { result ≡ sstatus_written_of s v }
 {
     Status {
-        sie: v.sie,
         mie: s.mie,
-        spie: v.spie,
         mpie: s.mpie,
-        spp: v.spp,
         mpp: s.mpp,
         mprv: s.mprv,
-        sum: v.sum,
-        mxr: v.mxr,
-        spelp: v.spelp,
         mpelp: s.mpelp,
+        ..v
     }
 }
 
 // What a write of v to sstatus leaves in mstatus.
+#[tactic(auto, using(crate::proofs::Packed::views))]
 pub fn write_view(old: u64, v: u64) -> u64
     ensures { result ≡ row_write_of sstatus old v }
 {
@@ -62,6 +41,7 @@ pub fn write_view(old: u64, v: u64) -> u64
 }
 
 // What a read of mstatus shows.
+#[tactic(auto, using(crate::proofs::Packed::shows))]
 pub fn shown(m: u64) -> u64
     ensures { result ≡ row_read_of mstatus m }
 {

@@ -8,7 +8,7 @@ use Rattle.isa.specs.declared.Mode.{Mode}
 use Rattle.isa.specs.declared.Mode.TheVariants.{User, Supervisor, Machine}
 use Rattle.word.specs.Row.{row_legal_of}
 use Rattle.csr_status.specs.Fields.{is_mpp, mstatus}
-use Rattle.csr_status.specs.Mode.{number_of}
+use Rattle.isa.specs.Mode.{number_of}
 use Rattle.csr_status.specs.Status.{status_of}
 use Rattle.csr_status.proofs.Packed.{unpacked, packed, modes}
 use Rattle.csr_trap.specs.Trap.{is_supervisor_of, trapped_m_of, trapped_s_of, enter_m_of, enter_s}

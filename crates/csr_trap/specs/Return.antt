@@ -3,7 +3,7 @@ use Rattle.std.specs.Prelude.{true, false, ◌&&◌, ℕ, eqb}
 use Rattle.word.specs.Choice.{pick}
 use Rattle.isa.specs.declared.Mode.{Mode}
 use Rattle.isa.specs.declared.Mode.TheVariants.{User, Supervisor}
-use Rattle.csr_status.specs.Mode.{mode_of}
+use Rattle.isa.specs.Mode.{mode_of}
 use Rattle.csr_status.specs.Status.{status_of, status_word_of}
 use Rattle.csr_status.specs.declared.Status.{Status}
 

@@ -2,7 +2,7 @@
 use Rattle.std.specs.Prelude.{Bool, true, false, ℕ}
 use Rattle.isa.specs.declared.Mode.{Mode}
 use Rattle.isa.specs.declared.Mode.TheVariants.{User, Supervisor, Machine}
-use Rattle.csr_status.specs.Mode.{number_of}
+use Rattle.isa.specs.Mode.{number_of}
 use Rattle.csr_status.specs.Status.{status_of, status_word_of}
 use Rattle.csr_status.specs.declared.Status.{Status}
 

@@ -9,10 +9,7 @@ use word::shift;
 pub fn delegated(medeleg: u64, cause: u64) -> bool
     ensures { result ≡ delegated_of medeleg cause }
 {
-    if cause < 64 {
-        return shift::right(medeleg, cause) % 2 == 1;
-    }
-    false
+    cause < 64 && shift::right(medeleg, cause) % 2 == 1
 }
 
 // To S if below M and delegated, else M.
@@ -20,8 +17,7 @@ pub fn to_s(m: Mode, delegated: bool) -> bool
     ensures { result ≡ to_s_of m delegated }
 {
     match m {
-        Mode::User => delegated,
-        Mode::Supervisor => delegated,
+        Mode::User | Mode::Supervisor => delegated,
         Mode::Machine => false,
     }
 }

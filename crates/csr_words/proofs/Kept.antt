@@ -11,7 +11,7 @@ use lib.Seq.{get_or-set_same, get_or-set_other}
 use Rattle.word.specs.Choice.{pick}
 use Rattle.word.proofs.Choices.{first, second}
 use Rattle.isa.specs.declared.Mode.{Mode}
-use Rattle.csr_status.specs.Mode.{mode_of, number_of}
+use Rattle.isa.specs.Mode.{mode_of, number_of}
 use Rattle.csr_status.specs.Status.{status_of}
 use Rattle.csr_status.specs.declared.Status.{Status}
 use Rattle.csr_trap.specs.Route.{to_s_of, delegated_of}

@@ -19,7 +19,7 @@ use Rattle.word.proofs.Tables.{every, checked}
 use Rattle.isa.specs.declared.Mode.{Mode}
 use Rattle.isa.specs.declared.Mode.TheVariants.{User, Supervisor, Machine}
 use Rattle.csr_status.specs.Fields.{mstatus}
-use Rattle.csr_status.specs.Mode.{mode_of, number_of}
+use Rattle.isa.specs.Mode.{mode_of, number_of}
 use Rattle.csr.specs.Row.{fours, envcfg, satp, medeleg, mseccfg, row_of}
 use Rattle.csr.specs.declared.Csr.{Csr}
 use Rattle.csr.specs.declared.Csr.TheVariants.{Ssp, Sstatus, Stvec, Senvcfg, Sscratch, Sepc, Scause, Stval, Satp, Mstatus, Medeleg, Mtvec, Menvcfg}

@@ -13,14 +13,14 @@ use Rattle.isa.specs.declared.Mode.TheVariants.{User}
 use Rattle.word.specs.Choice.{pick}
 use Rattle.word.specs.Row.{Field, row_write_of, row_read_of}
 use Rattle.word.proofs.Rows.{all_seen_of, back_of, back, shown}
-use Rattle.csr_status.specs.Mode.{mode_of}
+use Rattle.isa.specs.Mode.{mode_of}
 use Rattle.csr.specs.Row.{row_of}
 use Rattle.csr.specs.declared.Csr.{Csr}
 use Rattle.csr.specs.declared.Csr.TheVariants.{Ssp}
 use Rattle.csr.proofs.Made.{all_fit_lem, sixty_four, alike}
 use Rattle.csr_access.specs.Enable.{sse_of, permits_of}
 use Rattle.csr_access.specs.Reach.{reach_of}
-use Rattle.csr_access.specs.declared.reach.Reached.TheVariants.{To, Illegal}
+use Rattle.std.specs.Prelude.{Some, None}
 use Rattle.csr_access.proofs.Users.{user_ssp}
 use Rattle.csr_setting.specs.Reach.{csr_named_of}
 use Rattle.csr_setting.specs.Regime.{control_of}
@@ -64,17 +64,17 @@ pub others_stay : (j : ℕ) (n : Csr) (v : ℕ) (w : List ℕ) → (j ≡ csr_sl
 others_stay j n v w d = get_or-set_other w (csr_slot_of n) j (written_of n v w) 0 d
 
 -- in U no address names a CSR but ssp's
-pub user_reaches : (menvcfg senvcfg address : ℕ) (n : Csr) → csr_named_of 0 menvcfg senvcfg address ≡ To n → n ≡ Ssp
+pub user_reaches : (menvcfg senvcfg address : ℕ) (n : Csr) → csr_named_of 0 menvcfg senvcfg address ≡ Some n → n ≡ Ssp
 unfolding csr_named_of mode_of
 user_reaches menvcfg senvcfg address n e = user_ssp (permits_of User menvcfg senvcfg) address n e
 
 -- so a CSR write that U may make changes ssp and nothing else
-pub user_write : (menvcfg senvcfg address : ℕ) (n : Csr) (v : ℕ) (w : List ℕ) → csr_named_of 0 menvcfg senvcfg address ≡ To n
+pub user_write : (menvcfg senvcfg address : ℕ) (n : Csr) (v : ℕ) (w : List ℕ) → csr_named_of 0 menvcfg senvcfg address ≡ Some n
     → csr_write_of n v w ≡ (w but SSP ≔ written_of Ssp v w)
 user_write menvcfg senvcfg address n v w e = rw (user_reaches menvcfg senvcfg address n e)
 
 -- and U reaches ssp exactly where both SSE are 1
-pub user_pointer : (menvcfg senvcfg : ℕ) → csr_named_of 0 menvcfg senvcfg 0x011 ≡ pick (sse_of menvcfg && sse_of senvcfg) (To Ssp) Illegal
+pub user_pointer : (menvcfg senvcfg : ℕ) → csr_named_of 0 menvcfg senvcfg 0x011 ≡ pick (sse_of menvcfg && sse_of senvcfg) (Some Ssp) None
 unfolding csr_named_of mode_of reach_of
 user_pointer menvcfg senvcfg = refl
 

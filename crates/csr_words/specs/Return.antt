@@ -1,7 +1,7 @@
 -- MRET and SRET. Rules 6.7 to 6.9 of docs/HART.md.
 use Rattle.std.specs.Prelude.{Bool, ◌&&◌, List, ℕ}
 use Rattle.isa.specs.declared.Mode.{Mode}
-use Rattle.csr_status.specs.Mode.{number_of}
+use Rattle.isa.specs.Mode.{number_of}
 use Rattle.csr_status.specs.Status.{status_of}
 use Rattle.csr_trap.specs.Return.{leave_m_of, leave_s, mpp_mode_of, spp_mode_of}
 use Rattle.csr_access.specs.Enable.{pad_of}

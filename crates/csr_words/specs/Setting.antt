@@ -1,7 +1,7 @@
 -- What a mode and the CSRs say about an instruction. Rule 5.22 of docs/HART.md.
 use Rattle.std.specs.Prelude.{Bool, true, false, List, ℕ}
 use Rattle.word.specs.Choice.{Table, ◌⇒◌¦◌, otherwise, look}
-use Rattle.csr_status.specs.Mode.{mode_of}
+use Rattle.isa.specs.Mode.{mode_of}
 use Rattle.csr_access.specs.Enable.{permits_of}
 use Rattle.csr_setting.specs.Regime.{control_of, shadow_on, pad_on}
 use Rattle.csr_setting.specs.declared.Setting.{Setting}

@@ -2,7 +2,7 @@
 -- Rules 6.1 to 6.4 of docs/HART.md.
 use Rattle.std.specs.Prelude.{List, ℕ}
 use Rattle.word.specs.Choice.{pick}
-use Rattle.csr_status.specs.Mode.{mode_of}
+use Rattle.isa.specs.Mode.{mode_of}
 use Rattle.csr_trap.specs.Trap.{enter_m_of, enter_s}
 use Rattle.csr_trap.specs.Route.{delegated_of, to_s_of}
 use Rattle.csr_words.specs.Words.{◌of◌, ◌but◌≔◌, expected, PC, MODE, ELP, STVEC, SEPC, SCAUSE, STVAL, MSTATUS, MEDELEG, MTVEC, MEPC, MCAUSE, MTVAL}

@@ -3,7 +3,7 @@
 #![tactic(auto)]
 
 ghost use Rattle.std.specs.Prelude.{◌≡◌, ◌<◌, length};
-ghost use Rattle.csr_words.specs.Words.{COUNT, csr_slot_of, flag_of};
+ghost use Rattle.csr_words.specs.Words.{COUNT, csr_slot_of};
 
 use csr::Csr;
 
@@ -56,22 +56,12 @@ pub const MSECCFG: usize = 19;
 // How many there are.
 pub const COUNT: usize = 20;
 
-pub fn flag(b: bool) -> u64
-    ensures { result ≡ flag_of b }
-{
-    if b {
-        return 1;
-    }
-    0
-}
-
-// Where the word of a CSR stands.
+// Where the word of a CSR stands: sstatus is a view of mstatus.
 pub fn slot(n: Csr) -> usize
     ensures { (result ≡ csr_slot_of n) × (result < COUNT) }
 {
     match n {
         Csr::Ssp => SSP,
-        Csr::Sstatus => MSTATUS,
         Csr::Stvec => STVEC,
         Csr::Senvcfg => SENVCFG,
         Csr::Sscratch => SSCRATCH,
@@ -79,7 +69,7 @@ pub fn slot(n: Csr) -> usize
         Csr::Scause => SCAUSE,
         Csr::Stval => STVAL,
         Csr::Satp => SATP,
-        Csr::Mstatus => MSTATUS,
+        Csr::Sstatus | Csr::Mstatus => MSTATUS,
         Csr::Medeleg => MEDELEG,
         Csr::Mtvec => MTVEC,
         Csr::Menvcfg => MENVCFG,

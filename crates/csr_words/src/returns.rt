@@ -2,24 +2,24 @@
 ghost use Rattle.std.specs.Prelude.{◌≡◌};
 ghost use Rattle.csr_words.specs.Return.{back_in, mret_of, sret_of};
 
-use super::{COUNT, ELP, MENVCFG, MEPC, MODE, MSECCFG, MSTATUS, PC, SENVCFG, SEPC, flag};
+use super::{COUNT, ELP, MENVCFG, MEPC, MODE, MSECCFG, MSTATUS, PC, SENVCFG, SEPC};
 use csr_access::enable;
-use csr_status::mode;
 use csr_trap::returns;
 use isa::Mode;
-use word::choice;
 
 // In mode `new` at `to`, with mstatus m.
+#[tactic(auto, unfolding(crate::specs::Return::back_in))]
 fn back_in(w: &mut [u64; COUNT], new: Mode, saved: bool, m: u64, to: u64)
     ensures { w.new ≡ back_in w.old new saved m to }
 {
-    w[ELP] = flag(choice::both(enable::pad(new, w[MENVCFG], w[SENVCFG], w[MSECCFG]), saved));
-    w[MODE] = mode::number(new);
+    w[ELP] = u64::from(enable::pad(new, w[MENVCFG], w[SENVCFG], w[MSECCFG]) && saved);
+    w[MODE] = u64::from(new);
     w[MSTATUS] = m;
     w[PC] = to;
 }
 
 // MRET: to MPP at mepc, with MPELP.
+#[tactic(auto, unfolding(crate::specs::Return::mret_of))]
 pub fn mret(w: &mut [u64; COUNT])
     ensures { w.new ≡ mret_of w.old }
 {
@@ -35,6 +35,7 @@ pub fn mret(w: &mut [u64; COUNT])
 }
 
 // SRET: to SPP at sepc, with SPELP.
+#[tactic(auto, unfolding(crate::specs::Return::sret_of))]
 pub fn sret(w: &mut [u64; COUNT])
     ensures { w.new ≡ sret_of w.old }
 {

@@ -5,8 +5,9 @@ ghost use Rattle.csr_words.specs.Setting.{setting_of, switches};
 use super::{COUNT, MENVCFG, MODE, MSECCFG, MSTATUS, SATP, SENVCFG};
 use csr_access::enable;
 use csr_setting::Setting;
-use csr_status::mode;
+use isa::Mode;
 
+#[tactic(auto, unfolding(crate::specs::Setting::setting_of))]
 pub fn setting(w: &[u64; COUNT]) -> Setting
     ensures { result ≡ setting_of w.now }
 {
@@ -19,7 +20,7 @@ pub fn setting(w: &[u64; COUNT]) -> Setting
     Setting {
         control: csr_setting::control(mode, mstatus, satp, menvcfg, senvcfg, mseccfg),
         shadow: csr_setting::shadow(mode, menvcfg, senvcfg),
-        permitted: enable::permits(mode::mode(mode), menvcfg, senvcfg),
+        permitted: enable::permits(Mode::from(mode), menvcfg, senvcfg),
         pad: csr_setting::pad(mode, menvcfg, senvcfg, mseccfg),
     }
 }
@@ -28,13 +29,5 @@ pub fn setting(w: &[u64; COUNT]) -> Setting
 pub fn switched(k: usize) -> bool
     ensures { result ≡ switches k }
 {
-    match k {
-        MODE => true,
-        SENVCFG => true,
-        SATP => true,
-        MSTATUS => true,
-        MENVCFG => true,
-        MSECCFG => true,
-        _ => false,
-    }
+    matches!(k, MODE | SENVCFG | SATP | MSTATUS | MENVCFG | MSECCFG)
 }

@@ -1,48 +1,50 @@
 // Trap entry, in place.
-ghost use Rattle.std.specs.Prelude.{◌≡◌};
-ghost use Rattle.csr_words.specs.Trap.{trap_m, trap_s, trap_of};
+ghost use Rattle.std.specs.Prelude.{◌≡◌, ◌<◌};
+ghost use Rattle.isa.specs.Mode.{number_of};
+ghost use Rattle.csr_words.specs.Words.{◌of◌, ◌but◌≔◌, COUNT, PC, MODE, ELP, MSTATUS};
+ghost use Rattle.csr_words.specs.Trap.{trap_of};
 
 use super::{
     COUNT, ELP, MCAUSE, MEDELEG, MEPC, MODE, MSTATUS, MTVAL, MTVEC, PC, SCAUSE, SEPC, STVAL, STVEC,
 };
-use csr_status::mode;
 use csr_trap::{route, trap};
+use isa::Mode;
 
-fn to_m(w: &mut [u64; COUNT], cause: u64, tval: u64)
-    ensures { w.new ≡ trap_m w.old cause tval }
+// Into mode `to`, at what the word TVEC holds: EPC takes pc, CAUSE and TVAL what they are given, mstatus becomes m, and ELP is cleared.
+fn to_mode<const TVEC: usize, const EPC: usize, const CAUSE: usize, const TVAL: usize>(
+    w: &mut [u64; COUNT],
+    to: Mode,
+    m: u64,
+    cause: u64,
+    tval: u64,
+)
+    requires { (TVEC < COUNT) × (EPC < COUNT) × (CAUSE < COUNT) × (TVAL < COUNT) }
+    ensures { w.new ≡ (w.old but MSTATUS ≔ m but EPC ≔ PC of w.old but CAUSE ≔ cause but TVAL ≔ tval but ELP ≔ 0
+        but MODE ≔ number_of to but PC ≔ TVEC of w.old) }
 {
     let pc = w[PC];
-    let to = w[MTVEC];
-    w[MSTATUS] = trap::enter_m(w[MSTATUS], mode::mode(w[MODE]), w[ELP] == 1);
-    w[MEPC] = pc;
-    w[MCAUSE] = cause;
-    w[MTVAL] = tval;
+    let handler = w[TVEC];
+    w[MSTATUS] = m;
+    w[EPC] = pc;
+    w[CAUSE] = cause;
+    w[TVAL] = tval;
     w[ELP] = 0;
-    w[MODE] = 3;
-    w[PC] = to;
-}
-
-fn to_s(w: &mut [u64; COUNT], cause: u64, tval: u64)
-    ensures { w.new ≡ trap_s w.old cause tval }
-{
-    let pc = w[PC];
-    let to = w[STVEC];
-    w[MSTATUS] = trap::enter_s(w[MSTATUS], mode::mode(w[MODE]), w[ELP] == 1);
-    w[SEPC] = pc;
-    w[SCAUSE] = cause;
-    w[STVAL] = tval;
-    w[ELP] = 0;
-    w[MODE] = 1;
-    w[PC] = to;
+    w[MODE] = u64::from(to);
+    w[PC] = handler;
 }
 
 // A trap of the instruction at pc.
+#[tactic(auto, unfolding(crate::specs::Trap::trap_of, crate::specs::Trap::trap_m, crate::specs::Trap::trap_s))]
 pub fn enter(w: &mut [u64; COUNT], cause: u64, tval: u64)
     ensures { w.new ≡ trap_of w.old cause tval }
 {
-    if route::to_s(mode::mode(w[MODE]), route::delegated(w[MEDELEG], cause)) {
-        to_s(w, cause, tval);
-        return;
+    let from = Mode::from(w[MODE]);
+    let elp = w[ELP] == 1;
+    if route::to_s(from, route::delegated(w[MEDELEG], cause)) {
+        let m = trap::enter_s(w[MSTATUS], from, elp);
+        to_mode::<STVEC, SEPC, SCAUSE, STVAL>(w, Mode::Supervisor, m, cause, tval);
+    } else {
+        let m = trap::enter_m(w[MSTATUS], from, elp);
+        to_mode::<MTVEC, MEPC, MCAUSE, MTVAL>(w, Mode::Machine, m, cause, tval);
     }
-    to_m(w, cause, tval);
 }

@@ -7,6 +7,7 @@ use csr::{Csr, warl};
 use csr_access::enable;
 
 // What a read of CSR n shows.
+#[tactic(auto, unfolding(crate::specs::Warl::shown_of))]
 pub fn shown(w: &[u64; COUNT], n: Csr) -> u64
     ensures { result ≡ shown_of n w.now }
 {
@@ -15,6 +16,7 @@ pub fn shown(w: &[u64; COUNT], n: Csr) -> u64
 }
 
 // A write of v to CSR n.
+#[tactic(auto, unfolding(crate::specs::Warl::written_of))]
 pub fn write(w: &mut [u64; COUNT], n: Csr, v: u64)
     ensures { w.new ≡ csr_write_of n v w.old }
 {

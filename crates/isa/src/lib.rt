@@ -7,6 +7,8 @@
 
 // How many bytes an access moves.
 pub mod size;
+// The numbers of modes.
+mod mode_number;
 
 // How many bytes an access moves: 1, 2, 4 or 8.
 #[derive(Clone, Copy)]
@@ -47,6 +49,13 @@ pub enum Mode {
     User,
     Supervisor,
     Machine,
+}
+
+// What mcause and mtval get of an exception.
+#[derive(Clone, Copy)]
+pub struct Exception {
+    pub cause: u8,
+    pub tval: u64,
 }
 
 // When a branch is taken.

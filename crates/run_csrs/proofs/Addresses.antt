@@ -1,6 +1,7 @@
 -- The eight addresses: which word each has, and who reaches it. Four follow each other, and one line is an address.
 -- Assumes nothing.
 use mathlib.Core.Bool.{false}
+use mathlib.Core.Logic.{◌⊎◌, inl, inr}
 use mathlib.Core.Path.{◌≡◌, refl, subst}
 use Prim.Native.Nat.{ℕ, ◌+◌, ◌*◌, ◌/◌, ◌%◌}
 use native.Mathlib.Omega.{arith}
@@ -8,15 +9,13 @@ use lib.Dec.{ltb}
 use Rattle.word.proofs.Choices.{second}
 use Rattle.word.proofs.Either.{either}
 use Rattle.isa.specs.declared.Mode.{Mode}
-use Rattle.isa.specs.declared.Mode.TheVariants.{Machine}
-use Rattle.csr_status.specs.Mode.{number_of}
+use Rattle.isa.specs.declared.Mode.TheVariants.{Supervisor, Machine}
+use Rattle.isa.specs.Mode.{number_of, mode_of}
 use Rattle.csr.specs.declared.Csr.TheVariants.{Sscratch, Sepc, Scause, Stval}
 use Rattle.csr_access.specs.Reach.{reach_of}
-use Rattle.csr_access.specs.declared.reach.Reached.TheVariants.{To, Illegal}
+use Rattle.std.specs.Prelude.{Some, None}
 use Rattle.csr_words.specs.Words.{SSCRATCH, MSCRATCH}
-use Rattle.run_csrs.specs.Named.{CsrStands, Finds, named_of}
-use Rattle.run_csrs.specs.declared.Found.{Found}
-use Rattle.run_csrs.specs.declared.Found.TheVariants.{At}
+use Rattle.run_csrs.specs.Named.{CsrStands, named_of}
 
 -- what holds of four addresses that follow each other holds of each that is one of them
 four : (P : ℕ → Type 0) (q a : ℕ) → a / 4 ≡ q → P (q * 4) → P (q * 4 + 1) → P (q * 4 + 2) → P (q * 4 + 3) → P a
@@ -40,11 +39,13 @@ pub supervisor : (m : Mode) (a : ℕ) → ltb (number_of m) 1 ≡ false → a / 
 unfolding reach_of named_of
 supervisor m a h e =
     four (λ i. CsrStands (SSCRATCH + i % 4) i m) 0x50 a e
-    (omega arith, refl, λ p. second (ltb (number_of m) 1) Illegal (To Sscratch) h, λ sse. refl, refl)
-    (omega arith, refl, λ p. second (ltb (number_of m) 1) Illegal (To Sepc) h, λ sse. refl, refl)
-    (omega arith, refl, λ p. second (ltb (number_of m) 1) Illegal (To Scause) h, λ sse. refl, refl)
-    (omega arith, refl, λ p. second (ltb (number_of m) 1) Illegal (To Stval) h, λ sse. refl, refl)
+    (omega arith, refl, λ p. second (ltb (number_of m) 1) None (Some Sscratch) h, λ sse. refl, refl)
+    (omega arith, refl, λ p. second (ltb (number_of m) 1) None (Some Sepc) h, λ sse. refl, refl)
+    (omega arith, refl, λ p. second (ltb (number_of m) 1) None (Some Scause) h, λ sse. refl, refl)
+    (omega arith, refl, λ p. second (ltb (number_of m) 1) None (Some Stval) h, λ sse. refl, refl)
 
--- a word that was found
-pub found : (r : Found) (k a : ℕ) (m : Mode) → r ≡ At k → Finds r a m → CsrStands k a m
-found r k a m e f = subst (λ s. Finds s a m) e f
+-- that is S and M
+pub from_s_or_m : (mode a : ℕ) → mode ≡ 1 ⊎ mode ≡ 3 → a / 4 ≡ 0x50 → CsrStands (SSCRATCH + a % 4) a (mode_of mode)
+unfolding mode_of
+from_s_or_m mode a (inl e) h = rw e (supervisor Supervisor a refl h)
+from_s_or_m mode a (inr e) h = rw e (supervisor Machine a refl h)

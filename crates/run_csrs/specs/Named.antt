@@ -1,6 +1,6 @@
 -- The eight registers of a trap handler: scratch, epc, cause and tval, of M and of S. Four addresses of a mode follow each other, and so do their
 -- words among a hart's; so numbers say all, and an address is only named here.
-use Rattle.std.specs.Prelude.{Bool, false, List, ◌≡◌, ℕ, ◌%◌, ◌<◌, eqb}
+use Rattle.std.specs.Prelude.{Bool, false, List, ◌≡◌, ℕ, ◌%◌, ◌<◌, eqb, Option, Some, None}
 use Rattle.word.specs.Choice.{pick, Table, ◌⇒◌¦◌, otherwise, look}
 use Rattle.word.specs.Row.{Field, row_read_of}
 use Rattle.isa.specs.declared.Mode.{Mode}
@@ -8,11 +8,8 @@ use Rattle.csr.specs.Row.{row_of, fours, word}
 use Rattle.csr.specs.declared.Csr.{Csr}
 use Rattle.csr.specs.declared.Csr.TheVariants.{Sscratch, Sepc, Scause, Stval, Mscratch, Mepc, Mcause, Mtval}
 use Rattle.csr_access.specs.Reach.{reach_of}
-use Rattle.csr_access.specs.declared.reach.Reached.TheVariants.{To}
 use Rattle.csr_words.specs.Setting.{switches}
 use Rattle.csr_words.specs.Words.{COUNT, csr_slot_of}
-use Rattle.run_csrs.specs.declared.Found.{Found}
-use Rattle.run_csrs.specs.declared.Found.TheVariants.{At, Nowhere}
 
 -- what each of the eight addresses names: 0x343 is what is left, and any other is never asked for
 abbrev pub handlers : Table Csr
@@ -42,11 +39,11 @@ abbrev pub CsrStands : (k address : ℕ) → Mode → Type 0
 CsrStands k address m =
     (k < COUNT)
     × (k ≡ csr_slot_of (named_of address))
-    × ((permitted : Bool) → reach_of m permitted address ≡ To (named_of address))
+    × ((permitted : Bool) → reach_of m permitted address ≡ Some (named_of address))
     × ((sse : Bool) → row_of (named_of address) sse ≡ row_at address)
     × (switches (csr_slot_of (named_of address)) ≡ false)
 
 -- an address that was found is one of the eight; one that was not takes the slow path
-abbrev pub Finds : Found → (address : ℕ) → Mode → Type 0
-Finds (At k) address m = CsrStands k address m
-Finds Nowhere address m = Unit {0}
+abbrev pub Finds : Option ℕ → (address : ℕ) → Mode → Type 0
+Finds (Some k) address m = CsrStands k address m
+Finds None address m = Unit {0}

@@ -10,7 +10,7 @@ ghost use Rattle.word.specs.Choice.{pick};
 ghost use Rattle.word.specs.Field.{bits};
 ghost use Rattle.isa.specs.declared.CsrSource.TheVariants.{Register};
 ghost use Rattle.decode.specs.Decode.{decode_of};
-ghost use Rattle.csr_status.specs.Mode.{mode_of};
+ghost use Rattle.isa.specs.Mode.{mode_of};
 ghost use Rattle.step_effect.specs.Csrs.{csr_effect_of, writes_of, merged_of};
 ghost use Rattle.step_effect.specs.Register.{reg_of, put_of};
 ghost use Rattle.csr_setting.specs.declared.Setting.{Setting};
@@ -25,41 +25,24 @@ use step_effect::{csrs, register};
 use word::field;
 
 // Where the word of an address stands, if it is one of the eight and the mode reaches it. A number and not a `Csr`, which would cost a jump for
-// each of what is asked of it.
-#[derive(Clone, Copy)]
-enum Found {
-    At(usize),
-    Nowhere,
-}
-
-// M's four are M's alone; S's are also M's. Any other number than 1 and 3 is U, so S is not tested as "not 0".
-fn slot(address: u16, mode: u64) -> Found
+// each of what is asked of it. M's four are M's alone; S's are also M's. Any other number than 1 and 3 is U, so S is not tested as "not 0".
+fn slot(address: u16, mode: u64) -> Option<usize>
     ensures { Finds result address (mode_of mode) }
 {
-    if address / 4 == 0xd0 {
-        if mode == 3 {
-            return Found::At(MSCRATCH + (address % 4) as usize);
-        }
-        return Found::Nowhere;
+    let place = usize::from(address % 4);
+    match (address / 4, mode) {
+        (0xd0, 3) => Some(MSCRATCH + place),
+        (0x50, 1 | 3) => Some(SSCRATCH + place),
+        _ => None,
     }
-    if address / 4 == 0x50 {
-        return match mode {
-            1 => Found::At(SSCRATCH + (address % 4) as usize),
-            3 => Found::At(SSCRATCH + (address % 4) as usize),
-            _ => Found::Nowhere,
-        };
-    }
-    Found::Nowhere
 }
 
 // What a read shows of a word, and what a write leaves: bits 1:0 of epc are zero.
+#[tactic(auto, unfolding(crate::specs::Named::held_of))]
 fn held(address: u16, v: u64) -> u64
     ensures { result ≡ held_of address v }
 {
-    if address % 4 == 1 {
-        return v / 4 * 4;
-    }
-    v
+    if address % 4 == 1 { v / 4 * 4 } else { v }
 }
 
 // v at k, where an instruction writes. A function of its own, since the proof of a branch that others follow on is longer.
@@ -69,7 +52,6 @@ fn store(rest: &mut [u64; COUNT], k: usize, writes: bool, v: u64)
 {
     if writes {
         rest[k] = v;
-        return;
     }
 }
 
@@ -97,6 +79,7 @@ fn csr(
 }
 
 // A word whose opcode and funct3 are those of CSR operation o with a register.
+#[tactic(auto, using(crate::proofs::Carrying::done))]
 fn csr_word(w: u32, x: &mut [u64; 32], rest: &mut [u64; COUNT], o: CsrOperation) -> bool
     ensures { (next : ℕ) (permitted : Bool)
         → Handles result (csr_effect_of o (Register (bits w 19 15)) (bits w 11 7) (bits w 31 20) w x.old next
@@ -104,14 +87,12 @@ fn csr_word(w: u32, x: &mut [u64; 32], rest: &mut [u64; COUNT], o: CsrOperation)
         x.old rest.old next x.new rest.new }
 {
     let address = (w / 1048576 % 4096) as u16;
-    match slot(address, rest[MODE]) {
-        Found::At(k) => {
-            let f = field::split(w);
-            csr(x, rest, k, o, f.rs1, f.rd, address);
-            true
-        }
-        Found::Nowhere => false,
-    }
+    let Some(k) = slot(address, rest[MODE]) else {
+        return false;
+    };
+    let f = field::split(w);
+    csr(x, rest, k, o, f.rs1, f.rd, address);
+    true
 }
 
 // One word, by funct3 and opcode, on the registers x and the hart's other words; whether it was done. If so, pc goes on to the next

@@ -32,7 +32,7 @@ use Rattle.step_effect.specs.declared.Privileged.TheVariants as privileged
 use Rattle.step_transfer.specs.Access.{read_of, popped_of, done_of, at_of}
 use Rattle.step_meaning.specs.Instruction.{next_of, execute_of}
 use Rattle.step_meaning.specs.Plan.{fetched_of}
-use Rattle.csr_status.specs.Mode.{mode_of}
+use Rattle.isa.specs.Mode.{mode_of}
 use Rattle.csr_setting.specs.Regime.{control_of}
 use Rattle.csr_setting.specs.declared.Setting.{Setting}
 use Rattle.csr_words.specs.Words.{◌of◌, MODE, SSP}

@@ -10,7 +10,7 @@ ghost use Rattle.word.specs.Choice.{pick};
 ghost use Rattle.word.specs.Sum.{sum_of};
 ghost use Rattle.decode.specs.Decode.{decode_of};
 ghost use Rattle.memory.specs.Bytes.{load_of};
-ghost use Rattle.csr_status.specs.Mode.{mode_of};
+ghost use Rattle.isa.specs.Mode.{mode_of};
 ghost use Rattle.step_effect.specs.Register.{reg_of, put_of};
 ghost use Rattle.csr_setting.specs.declared.Setting as setting;
 ghost use Rattle.step_meaning.specs.Instruction.{next_of, execute_of};

@@ -9,7 +9,7 @@ ghost use Rattle.std.specs.Prelude.{◌≡◌, [], ◌∷◌};
 ghost use Rattle.sporhulma.specs.Boundary.{step_left_of, step_word_left, run_left, left_from};
 ghost use Rattle.sporhulma.specs.Load.{load_left};
 
-use csr_words::{COUNT, flag};
+use csr_words::COUNT;
 use run_engine::run;
 use step_meaning::Source;
 
@@ -45,7 +45,7 @@ fn call(
     let n = run_call::run_refusal(x, rest, mem, map, budget);
     if n == 0 {
         let t = run::run(x, rest, source, mem, map, budget);
-        *answer = [t.count, flag(t.trapped), t.cause];
+        *answer = [t.count, u64::from(t.trapped), t.cause];
         return 0;
     }
     refused(n, answer)

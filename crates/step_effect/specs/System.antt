@@ -3,7 +3,7 @@ use Rattle.std.specs.Prelude.{ℕ}
 use Rattle.isa.specs.declared.Mode.{Mode}
 use Rattle.isa.specs.declared.Mode.TheVariants.{User, Supervisor, Machine}
 use Rattle.csr_access.specs.Exception.{illegal_of}
-use Rattle.csr_access.specs.declared.exception.Exception.{Exception}
+use Rattle.isa.specs.declared.Exception.{Exception}
 use Rattle.step_effect.specs.declared.Effect.{Effect}
 use Rattle.step_effect.specs.declared.Effect.TheVariants.{Privileged, Trap}
 use Rattle.step_effect.specs.declared.Privileged.TheVariants.{Mret, Sret}

@@ -10,10 +10,7 @@ use word::{logic, order, shift, sum};
 pub fn one(b: bool) -> u64
     ensures { result ≡ one_of b }
 {
-    if b {
-        return 1;
-    }
-    0
+    u64::from(b)
 }
 
 pub fn operation(o: Operation, a: u64, b: u64) -> u64
@@ -73,7 +70,7 @@ pub fn condition(k: Condition, a: u64, b: u64) -> bool
 {
     match k {
         Condition::Equal => a == b,
-        Condition::NotEqual => !(a == b),
+        Condition::NotEqual => a != b,
         Condition::Less => order::signed_less(a, b),
         Condition::NotLess => !order::signed_less(a, b),
         Condition::LessUnsigned => order::unsigned_less(a, b),

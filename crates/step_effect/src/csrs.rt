@@ -4,7 +4,6 @@ ghost use Rattle.step_effect.specs.Csrs.{writes_of, merged_of, field_of, operand
 
 use super::{Effect, Privileged, register, system};
 use csr_access::reach;
-use csr_access::reach::Reached;
 use csr_setting::Setting;
 use isa::{CsrOperation, CsrSource};
 use word::logic;
@@ -15,8 +14,7 @@ pub fn writes(o: CsrOperation, field: u8) -> bool
 {
     match o {
         CsrOperation::Write => true,
-        CsrOperation::Set => !(field == 0),
-        CsrOperation::Clear => !(field == 0),
+        CsrOperation::Set | CsrOperation::Clear => field != 0,
     }
 }
 
@@ -25,8 +23,7 @@ fn field(source: CsrSource) -> u8
     ensures { result ≡ field_of source }
 {
     match source {
-        CsrSource::Register(n) => n,
-        CsrSource::Immediate(n) => n,
+        CsrSource::Register(n) | CsrSource::Immediate(n) => n,
     }
 }
 
@@ -35,7 +32,7 @@ fn operand(source: CsrSource, x: &[u64; 32]) -> u64
 {
     match source {
         CsrSource::Register(n) => register::reg(x, n),
-        CsrSource::Immediate(n) => n as u64,
+        CsrSource::Immediate(n) => u64::from(n),
     }
 }
 
@@ -50,6 +47,7 @@ pub fn merged(o: CsrOperation, old: u64, v: u64) -> u64
     }
 }
 
+#[tactic(auto, unfolding(crate::specs::Csrs::csr_effect_of, crate::specs::Csrs::csr_reached_of))]
 pub fn csr(
     o: CsrOperation,
     source: CsrSource,
@@ -62,10 +60,8 @@ pub fn csr(
 ) -> Effect
     ensures { result ≡ csr_effect_of o source rd address word x.now next s.control.mode s.permitted }
 {
-    let c = s.control;
-    let m = c.mode;
-    match reach::reach(m, s.permitted, address) {
-        Reached::To(n) => Effect::Privileged(Privileged::Csr(
+    match reach::reach(s.control.mode, s.permitted, address) {
+        Some(n) => Effect::Privileged(Privileged::Csr(
             o,
             n,
             writes(o, field(source)),
@@ -73,6 +69,6 @@ pub fn csr(
             rd,
             next,
         )),
-        Reached::Illegal => system::illegal(word),
+        None => system::illegal(word),
     }
 }

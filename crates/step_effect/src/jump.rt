@@ -6,9 +6,10 @@ ghost use Rattle.step_effect.specs.Jump.{even_of, needs_no_pad_of, jal_of, jalr_
 use super::Effect;
 use address::cause;
 use isa::Kind;
-use word::{choice, sum};
+use word::sum;
 
 // JAL: rd takes the link. Also a branch that is taken, whose rd is 0.
+#[tactic(auto, unfolding(crate::specs::Jump::jal_of))]
 pub fn jal(rd: u8, link: u64, target: u64) -> Effect
     ensures { result ≡ jal_of rd link target }
 {
@@ -22,10 +23,11 @@ pub fn jal(rd: u8, link: u64, target: u64) -> Effect
 pub fn needs_no_pad(rs1: u8) -> bool
     ensures { result ≡ needs_no_pad_of rs1 }
 {
-    choice::either(rs1 == 1, choice::either(rs1 == 5, rs1 == 7))
+    matches!(rs1, 1 | 5 | 7)
 }
 
 // JALR, of which rs1 is the register's number and a its value: to a with the offset added, and bit 0 cleared.
+#[tactic(auto, unfolding(crate::specs::Jump::jalr_of))]
 pub fn jalr(rd: u8, rs1: u8, link: u64, a: u64, off: u64, pad: bool) -> Effect
     ensures { result ≡ jalr_of rd rs1 link (sum_of a off) pad }
 {
@@ -45,12 +47,10 @@ pub fn even(target: u64) -> u64
 pub fn expected(pad: bool, exempt: bool) -> bool
     ensures { result ≡ (pad && not exempt) }
 {
-    if pad {
-        return !exempt;
-    }
-    false
+    pad && !exempt
 }
 
+#[tactic(auto, unfolding(crate::specs::Jump::branch_of))]
 pub fn branch(taken: bool, next: u64, target: u64) -> Effect
     ensures { result ≡ branch_of taken next target }
 {

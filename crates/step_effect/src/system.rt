@@ -5,8 +5,7 @@ ghost use Rattle.step_effect.specs.System.{trap_with, mret_effect_of, sret_effec
 
 use super::{Effect, Privileged};
 use csr_access::exception;
-use csr_access::exception::Exception;
-use isa::Mode;
+use isa::{Exception, Mode};
 
 fn trap(e: Exception) -> Effect
     ensures { result ≡ trap_with e }
@@ -37,8 +36,7 @@ pub fn mret(m: Mode, word: u32) -> Effect
     ensures { result ≡ mret_effect_of m word }
 {
     match m {
-        Mode::User => illegal(word),
-        Mode::Supervisor => illegal(word),
+        Mode::User | Mode::Supervisor => illegal(word),
         Mode::Machine => Effect::Privileged(Privileged::Mret),
     }
 }
@@ -49,7 +47,6 @@ pub fn sret(m: Mode, word: u32) -> Effect
 {
     match m {
         Mode::User => illegal(word),
-        Mode::Supervisor => Effect::Privileged(Privileged::Sret),
-        Mode::Machine => Effect::Privileged(Privileged::Sret),
+        Mode::Supervisor | Mode::Machine => Effect::Privileged(Privileged::Sret),
     }
 }

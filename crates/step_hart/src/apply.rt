@@ -7,7 +7,7 @@ ghost use Rattle.step_hart.specs.Hart.{hart};
 ghost use Rattle.step_hart.specs.Step.{csr_of, privileged_of, apply_of, traps_of, cause_of};
 
 use csr::Csr;
-use csr_words::{COUNT, ELP, PC, SSP, flag, returns, setting, slot, trap, warl};
+use csr_words::{COUNT, ELP, PC, SSP, returns, setting, slot, trap, warl};
 use isa::{CsrOperation, Width};
 use step_effect::{Effect, Privileged, csrs, register};
 
@@ -92,7 +92,7 @@ pub fn apply(x: &mut [u64; 32], w: &mut [u64; COUNT], mem: &mut [u8], e: Effect)
         Effect::Jump(rd, v, next, pad) => {
             register::put(x, rd, v);
             w[PC] = next;
-            w[ELP] = flag(pad);
+            w[ELP] = u64::from(pad);
             says(false, 0, false)
         }
         Effect::Pad(next) => {

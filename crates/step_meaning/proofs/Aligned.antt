@@ -28,8 +28,8 @@ use Rattle.address_place.specs.declared.Physical.{Physical}
 use Rattle.address_place.specs.declared.Place.{Place}
 use Rattle.address_place.specs.declared.Place.TheVariants.{At, Fault}
 use Rattle.csr_access.specs.Reach.{reach_of}
-use Rattle.csr_access.specs.declared.reach.Reached.{Reached}
-use Rattle.csr_access.specs.declared.reach.Reached.TheVariants as reached
+use Rattle.std.specs.Prelude.{Option, Some, None}
+use Rattle.csr.specs.declared.Csr as csr
 use Rattle.step_transfer.specs.Access.{gate_of_instruction, address_of, read_of, popped_of, done_of, at_of, passed_of, access_of}
 use Rattle.step_effect.specs.Compute.{condition_of}
 use Rattle.step_effect.specs.Csrs.{csr_reached_of, csr_effect_of}
@@ -94,11 +94,11 @@ sret_aligned User word = tt
 sret_aligned Supervisor word = tt
 sret_aligned Machine word = tt
 
-reached_aligned : (r : Reached) (o : CsrOperation) (source : CsrSource) (rd word : ℕ) (x : List ℕ) (next : ℕ) → next % 4 ≡ 0
+reached_aligned : (r : Option csr.Csr) (o : CsrOperation) (source : CsrSource) (rd word : ℕ) (x : List ℕ) (next : ℕ) → next % 4 ≡ 0
     → Aligned (csr_reached_of r o source rd word x next)
 unfolding csr_reached_of
-reached_aligned (reached.To n) o source rd word x next a = a
-reached_aligned reached.Illegal o source rd word x next a = tt
+reached_aligned (Some n) o source rd word x next a = a
+reached_aligned None o source rd word x next a = tt
 
 module _ (a b ssp next : ℕ) (m : List ℕ) (p : ssp % 8 ≡ 0) (n : next % 4 ≡ 0) where
   done_aligned : (k : Access) (q : Physical) (rd : ℕ) → Aligned (done_of k q rd a b ssp next m)

@@ -26,8 +26,8 @@ use Rattle.address_place.specs.declared.Place.{Place}
 use Rattle.address_place.specs.declared.Place.TheVariants.{At, Fault}
 use Rattle.address_place.proofs.Reach.{place_within}
 use Rattle.csr_access.specs.Reach.{reach_of}
-use Rattle.csr_access.specs.declared.reach.Reached.{Reached}
-use Rattle.csr_access.specs.declared.reach.Reached.TheVariants as reached
+use Rattle.std.specs.Prelude.{Option, Some, None}
+use Rattle.csr.specs.declared.Csr as csr
 use Rattle.step_transfer.specs.Access.{gate_of_instruction, address_of, read_of, popped_of, done_of, at_of, passed_of, access_of}
 use Rattle.step_effect.specs.Compute.{condition_of}
 use Rattle.step_effect.specs.Csrs.{csr_reached_of, csr_effect_of}
@@ -73,11 +73,11 @@ sret_stays User word len = omega arith
 sret_stays Supervisor word len = omega arith
 sret_stays Machine word len = omega arith
 
-reached_stays : (r : Reached) (o : CsrOperation) (source : CsrSource) (rd word : ℕ) (x : List ℕ) (next len : ℕ)
+reached_stays : (r : Option csr.Csr) (o : CsrOperation) (source : CsrSource) (rd word : ℕ) (x : List ℕ) (next len : ℕ)
     → Stays (csr_reached_of r o source rd word x next) len
 unfolding csr_reached_of
-reached_stays (reached.To n) o source rd word x next len = omega arith
-reached_stays reached.Illegal o source rd word x next len = omega arith
+reached_stays (Some n) o source rd word x next len = omega arith
+reached_stays None o source rd word x next len = omega arith
 
 done_stays : (k : Access) (q : Physical) (rd a b ssp next : ℕ) (m : List ℕ) → Within (length m) (width_of k) q.0
     → Stays (done_of k q rd a b ssp next m) (length m)

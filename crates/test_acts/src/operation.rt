@@ -9,9 +9,8 @@ ghost use Rattle.std.specs.Prelude.{◌≤◌};
 
 use super::state;
 use address::{control, mask};
-use csr_access::reach::Reached;
+use csr::Csr;
 use csr_setting::{Setting, reach};
-use csr_status::mode;
 use csr_words::{MENVCFG, MODE, SENVCFG, setting};
 use step_hart::Hart;
 use test_lines::line::MOST;
@@ -51,24 +50,22 @@ fn verdict(legal: bool, hart: Hart) -> Came {
     }
 }
 
-fn reached(h: Hart, address: u64) -> Reached {
+fn reached(h: Hart, address: u64) -> Option<Csr> {
     let w = h.words;
     reach::reached(w[MODE], w[MENVCFG], w[SENVCFG], (address % 0x1000) as u16)
 }
 
 fn read(h: Hart, address: u64) -> Came {
-    let r = reached(h, address);
-    match r {
-        Reached::To(n) => value(h.csr_read(n), h),
-        Reached::Illegal => verdict(false, h),
+    match reached(h, address) {
+        Some(n) => value(h.csr_read(n), h),
+        None => verdict(false, h),
     }
 }
 
 fn write(h: Hart, address: u64, v: u64) -> Came {
-    let r = reached(h, address);
-    match r {
-        Reached::To(n) => value(0, h.csr_write(n, v)),
-        Reached::Illegal => verdict(false, h),
+    match reached(h, address) {
+        Some(n) => value(0, h.csr_write(n, v)),
+        None => verdict(false, h),
     }
 }
 
@@ -88,7 +85,7 @@ fn counted(b: bool, n: u64) -> u64
 fn regime(h: Hart, kind: u64) -> Came {
     let g = says(h).control;
     let m = control::effective(g, places::kind(kind));
-    let low = mode::number(m) + counted(control::paged(g, m), 4);
+    let low = u64::from(m) + counted(control::paged(g, m), 4);
     let bits = counted(g.sum, 8) + counted(g.mxr, 16) + counted(g.sse, 32);
     value(low + bits + mask::pmlen(control::pmm(g, m)) * 64, h)
 }

@@ -8,7 +8,6 @@
 ghost use Rattle.std.specs.Prelude.{◌≡◌, ◌≤◌, length};
 ghost use Rattle.test_lines.specs.Most.{most};
 
-use csr_words::flag;
 use run_call::Answer;
 use step_hart::Hart;
 use test_acts::state;
@@ -45,7 +44,7 @@ fn on(n: &[u64], mem: &mut [u8], map: &[u64; MOST], count: usize) -> Answer
 fn shown(a: Answer, got: &mut [u64; MOST]) {
     row::put(&mut *got, 0, a.refusal);
     row::put(&mut *got, 1, a.count);
-    row::put(&mut *got, 2, flag(a.trapped));
+    row::put(&mut *got, 2, u64::from(a.trapped));
     row::put(&mut *got, 3, a.cause);
     let h = a.hart;
     state::shown(h, got, 4);

@@ -1,7 +1,6 @@
 // A lap: a program in memory, run until it traps, a million steps at a time, and the numbers of how it ended.
 ghost use Rattle.std.specs.Prelude.{◌≡◌, ◌≤◌, length};
 
-use csr_words::flag;
 use isa::Width;
 use run_call::Answer;
 use std::num;
@@ -100,7 +99,7 @@ pub fn numbers(got: &mut [u64; MOST], r: Ran, mem: &[u8], at: usize) -> u64
     let h = r.hart;
     let x = h.x;
     let w = h.words;
-    let ends = [r.runs, r.steps, flag(r.trapped), r.cause];
+    let ends = [r.runs, r.steps, u64::from(r.trapped), r.cause];
     row::copy(&mut *got, 0, &x);
     row::copy(&mut *got, 32, &w);
     row::copy(&mut *got, 52, &ends);

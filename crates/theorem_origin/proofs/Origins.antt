@@ -34,8 +34,7 @@ use Rattle.csr_access.proofs.Users.{user_ssp}
 use Rattle.csr_access.specs.Reach.{reach_of}
 use Rattle.csr.specs.declared.Csr as csr
 use Rattle.csr.specs.declared.Csr.TheVariants.{Ssp}
-use Rattle.csr_access.specs.declared.reach.Reached.{Reached}
-use Rattle.csr_access.specs.declared.reach.Reached.TheVariants as reached
+use Rattle.std.specs.Prelude.{Option, Some, None}
 use Rattle.step_transfer.specs.Access.{gate_of_instruction, address_of, read_of, popped_of, done_of, at_of, passed_of, access_of}
 use Rattle.step_effect.specs.Compute.{condition_of}
 use Rattle.step_effect.specs.Csrs.{csr_reached_of, csr_effect_of, writes_of, field_of}
@@ -82,7 +81,7 @@ pub record CsrStep (source : Source) (h : Hart) (m map : List ℕ) (o : CsrOpera
   pub address : ℕ
   pub arrives : fetched_of source (in_force h) (PC of h.words) m map ≡ fetched.Word word
   pub reads : decode_of word ≡ Csr o from rd address
-  pub names : reach_of (in_force h).mode (setting_of h.words).permitted address ≡ reached.To n
+  pub names : reach_of (in_force h).mode (setting_of h.words).permitted address ≡ Some n
   pub wrote : writes ≡ writes_of o (field_of from)
 
 module _ (source : Source) (h : Hart) (m map : List ℕ) where
@@ -190,14 +189,14 @@ module _ (source : Source) (h : Hart) (m map : List ℕ) where
       passed_origin k gate.Off reads opened = tt
       passed_origin k gate.Illegal reads opened = tt
 
-    reached_origin : (r : Reached) (address : ℕ) (o : CsrOperation) (from : CsrSource) (rd : ℕ) (next : ℕ) → decode_of word ≡ Csr o from rd address
+    reached_origin : (r : Option csr.Csr) (address : ℕ) (o : CsrOperation) (from : CsrSource) (rd : ℕ) (next : ℕ) → decode_of word ≡ Csr o from rd address
         → reach_of (in_force h).mode s.permitted address ≡ r → Origin (csr_reached_of r o from rd word h.x next)
     unfolding csr_reached_of
-    reached_origin (reached.To n) address o from rd next d e = (
+    reached_origin (Some n) address o from rd next d e = (
       (λ u. user_ssp s.permitted address n (sym (ap (λ (o : Mode). reach_of o s.permitted address) u) ∙ e)),
       record { word = word; from = from; address = address; arrives = arrives; reads = d; names = e; wrote = refl },
     )
-    reached_origin reached.Illegal address o from rd next d e = tt
+    reached_origin None address o from rd next d e = tt
 
     execute_origin : (i : Instruction) → decode_of word ≡ i → Origin (execute_of i word h.x (PC of h.words) (SSP of h.words) s m map)
     unfolding execute_of access_of csr_effect_of

@@ -14,7 +14,7 @@ use Rattle.isa.specs.declared.Mode.TheVariants.{User}
 use Rattle.address.specs.Control as control
 use Rattle.address.specs.Control.{paged_of}
 use Rattle.address.specs.declared.control.Control.{Control}
-use Rattle.csr_status.specs.Mode.{mode_of}
+use Rattle.isa.specs.Mode.{mode_of}
 use Rattle.csr.specs.declared.Csr.{Csr}
 use Rattle.csr.specs.declared.Csr.TheVariants.{Ssp}
 use Rattle.step_effect.specs.declared.Effect.{Effect}

@@ -20,7 +20,7 @@ use Rattle.address_place.proofs.Reach.{place_paged, shadow_paged, shadow_on_shad
 use Rattle.address_place.specs.declared.Physical.{Physical}
 use Rattle.address.specs.declared.control.Control.{Control}
 use Rattle.csr_access.specs.Enable.{sse_of}
-use Rattle.csr_status.specs.Mode.{mode_of}
+use Rattle.isa.specs.Mode.{mode_of}
 use Rattle.step_transfer.specs.Access.{read_of, popped_of}
 use Rattle.step_meaning.specs.Instruction.{next_of}
 use Rattle.step_effect.specs.declared.Effect.TheVariants.{Pop, Trap}

@@ -23,7 +23,7 @@ use Rattle.address.specs.Control as control
 use Rattle.address.specs.Mask.{mask_of, transformed_of}
 use Rattle.address_place.specs.Place.{within_of, inside_of, settle_of, through_of, paged_place_of, plain_place_of, reached_of, place_of}
 use Rattle.address_place.specs.declared.Physical.{Physical}
-use Rattle.csr_status.specs.Mode.{mode_of}
+use Rattle.isa.specs.Mode.{mode_of}
 use Rattle.csr_access.specs.Enable.{sse_of}
 use Rattle.csr_access.specs.Reach.{reach_of}
 use Rattle.csr.specs.declared.Csr.TheVariants.{Ssp}

@@ -20,7 +20,7 @@ use Rattle.address.specs.Control as control
 use Rattle.address.specs.Mask.{mask_of, transformed_of}
 use Rattle.address_place.specs.Place.{within_of, inside_of, settle_of, through_of, paged_place_of, reached_of, place_of}
 use Rattle.address.specs.declared.control.Control.{Control}
-use Rattle.csr_status.specs.Mode.{mode_of}
+use Rattle.isa.specs.Mode.{mode_of}
 use Rattle.step_transfer.specs.Access.{popped_of, done_of, at_of, passed_of, access_of}
 use Rattle.step_meaning.specs.Instruction.{execute_of}
 use Rattle.step_meaning.specs.Plan.{fetched_of, landed_of, arrived_of, effect_of}

@@ -5,7 +5,7 @@ use Prim.Native.Nat.{ℕ}
 use Rattle.csr_words.specs.Words.{◌of◌, MODE, SSP}
 use Rattle.csr_words.specs.Setting.{setting_of}
 use Rattle.csr_setting.specs.Regime.{control_of}
-use Rattle.csr_status.specs.Mode.{mode_of}
+use Rattle.isa.specs.Mode.{mode_of}
 use Rattle.run_turn.proofs.Gliding.{quickly, by_handler}
 use Rattle.run_glide.proofs.instruction.Goals as goal
 

@@ -23,7 +23,7 @@ returns-then-n-eq0 c =
       registers = ap (λ (h : Hart). h.x) ran.hart;
       others = ap (λ (h : Hart). h.words) ran.hart;
       memory = ran.memory;
-      answer = told run c.run-t.result c.flag.result ran.answer c.flag.ensures;
+      answer = told run c.run-t.result c.from.result ran.answer c.from.ensures;
     }
 
 pub returns : goal.returns
