@@ -3,12 +3,13 @@
 -- Assumes nothing.
 use mathlib.Core.Bool.{Bool, true, false, ◌&&◌}
 use mathlib.Core.Path.{◌≡◌, refl}
-use Prim.Native.Nat.{ℕ, zero, suc, ◌+◌, ◌*◌, ◌/◌, ◌%◌, ◌^◌, ◌<◌, ◌≤◌}
+use Prim.Native.Nat.{ℕ, zero, suc, ◌+◌, ◌-◌, ◌*◌, ◌<◌, ◌≤◌}
 use native.Mathlib.Omega.{arith}
-use borrow.Author.Tests.{ltb-true, eqb-true, eqb-false, lt-ltb}
-use lib.Dec.{ltb, eqb}
+use borrow.Author.Tests.{ltb-true, leb-true, eqb-true, eqb-false, lt-ltb, lt-leb, le-leb}
+use lib.Dec.{ltb, leb, eqb}
 use Rattle.word.specs.Choice.{pick}
 use Rattle.word.proofs.Bools.{both}
+use Rattle.word.proofs.Either.{either}
 use Rattle.intel_hex.specs.Digits.{digit_of, is_digit}
 use Rattle.intel_hex.specs.Inner.{weight_of}
 
@@ -27,14 +28,34 @@ below (suc m) f h n l =
     let (p, q) = both (f m) (all_below m f) h in
     by_test (eqb n m) (λ e. rw (eqb-true n m e) p) (λ e. let d = eqb-false n m e in below m f q n (omega arith))
 
--- the code's formula
-unfoldable pub formula : ℕ → ℕ
+-- a test of each byte, and what it tells of digits of each kind and of any other byte
+formula : ℕ → ℕ
 formula n =
-    pick (ltb 63 ((n + 208) % 256)) 0x10_0000 (pick (eqb (0x007e_0000_007e_03ff / 2 ^ ((n + 208) % 256) % 2) 0) 0x10_0000 (n % 16 + n / 64 * 9))
+    pick (leb 48 n && leb n 57) (n - 48) (pick (leb 65 n && leb n 70) (n - 55) (pick (leb 97 n && leb n 102) (n - 87) 0x10_0000))
 
-pub told : (n : ℕ) → n < 256 → formula n ≡ weight_of n
+told : (n : ℕ) → n < 256 → formula n ≡ weight_of n
 unfolding all_below formula weight_of is_digit digit_of
 told n h = eqb-true (formula n) (weight_of n) (below 256 (λ (k : ℕ). eqb (formula k) (weight_of k)) refl n h)
+
+out : (n a b : ℕ) → (a ≤ n → n ≤ b → ⊥) → leb a n && leb n b ≡ false
+out n a b f = by_test (leb a n) (λ h. rw (h, lt-leb n b (either b n (λ l. l) (λ l. absurd (f (leb-true a n h) l))))) (λ h. rw h)
+
+module _ (n : ℕ) where
+  pub decimal : 48 ≤ n → n ≤ 57 → n - 48 ≡ weight_of n
+  unfolding formula
+  decimal h l = rw (le-leb 48 n h, le-leb n 57 l) at (told n (omega arith))
+
+  pub upper_case : 65 ≤ n → n ≤ 70 → n - 55 ≡ weight_of n
+  unfolding formula
+  upper_case h l = rw (out n 48 57 (λ a b. omega arith), le-leb 65 n h, le-leb n 70 l) at (told n (omega arith))
+
+  pub lower_case : 97 ≤ n → n ≤ 102 → n - 87 ≡ weight_of n
+  unfolding formula
+  lower_case h l = rw (out n 48 57 (λ a b. omega arith), out n 65 70 (λ a b. omega arith), le-leb 97 n h, le-leb n 102 l) at (told n (omega arith))
+
+  pub other_byte : n < 256 → (48 ≤ n → n ≤ 57 → ⊥) → (65 ≤ n → n ≤ 70 → ⊥) → (97 ≤ n → n ≤ 102 → ⊥) → 0x10_0000 ≡ weight_of n
+  unfolding formula
+  other_byte b f g h = rw (out n 48 57 f, out n 65 70 g, out n 97 102 h) at (told n b)
 
 -- what any byte says
 range : {A : Type 0} (b : ℕ) → (digit_of b < 16 → weight_of b ≡ digit_of b → A) → (is_digit b ≡ false → weight_of b ≡ 0x10_0000 → A) → A

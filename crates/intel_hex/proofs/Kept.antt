@@ -5,64 +5,79 @@ use mathlib.Core.Bool.{Bool, true, false}
 use mathlib.Core.List.{List, [], ◌∷◌, ◌++◌}
 use mathlib.Core.Path.{◌≡◌, refl, sym, ap, ◌∙◌}
 use Prim.Native.Nat.{ℕ, ◌-◌}
-use native.Mathlib.Omega.{arith}
-use borrow.Author.Tests.{eqb-true, eqb-false}
-use lib.Dec.{eqb}
 use lib.ListN.{length, get_or, take}
+use Rattle.std.specs.Prelude.{Option, Some, None, Result, Ok, Err, IsOk, IsErr, is_ok, is_err}
 use Rattle.word.specs.Choice.{pick}
 use Rattle.word.proofs.Bools.{both, neither}
 use Rattle.memory.specs.Refusal.{memory_refused_of}
 use Rattle.intel_hex.specs.Lines.{lines_of}
 use Rattle.intel_hex.specs.Line.{good}
-use Rattle.intel_hex.specs.Load.{upper_after_of, first_bad_of, no_start, placed, stored, answered, load_hex_of}
+use Rattle.intel_hex.specs.Load.{upper_after_of, first_bad_of, placed, stored, refused_with, judged, load_hex_of}
 use Rattle.intel_hex.proofs.Named.{names, some_names, upper_at, data_at, byte_after}
 use Rattle.intel_hex.specs.Inner.{all_good}
-use Rattle.intel_hex.specs.declared.Loaded.{Loaded}
+use Rattle.intel_hex.specs.declared.Refusal.{Refusal}
+use Rattle.intel_hex.specs.declared.Refusal.TheVariants.{Memory, Line}
 use Rattle.intel_hex.proofs.Bytes.{placed_byte, length_placed}
 use Rattle.intel_hex.proofs.Digits.{by_test}
-use Rattle.intel_hex.proofs.Loads.{refused_2, refused_6, taken}
+use Rattle.intel_hex.proofs.Loads.{answer_of, memory_of, accepted_with, refused_2, by_bad, taken}
 use Rattle.intel_hex.proofs.Turns.{none_bad, good_before}
 
+-- a first bad line, or none
+by_line : {A : Type 0} (bad : Option ℕ) → ((n : ℕ) → bad ≡ Some n → A) → (bad ≡ None → A) → A
+by_line None f g = g refl
+by_line (Some n) f g = f n refl
+
+-- an answer is a start address or a refusal, and a refusal names one line
+module _ {A : Type 0} where
+  absurd_answer : {a : Result (Option ℕ) Refusal} {s : Option ℕ} → a ≡ Ok s → IsErr a → A
+  absurd_answer e h = let z : false ≡ true = sym (ap is_err e) ∙ h in cc
+
+  refused_answer : {a : Result (Option ℕ) Refusal} {r : Refusal} → a ≡ Err r → IsOk a → A
+  refused_answer e h = let z : false ≡ true = sym (ap is_ok e) ∙ h in cc
+
+  other_refusal : {n : ℕ} → ◌≡◌ {A = Result (Option ℕ) Refusal} (Err Memory) (Err (Line n)) → A
+  other_refusal e = cc
+
+  no_refusal : {s : Option ℕ} {r : Refusal} → ◌≡◌ {A = Result (Option ℕ) Refusal} (Ok s) (Err r) → A
+  no_refusal e = cc
+
+same_line : {m n : ℕ} → ◌≡◌ {A = Result (Option ℕ) Refusal} (Err (Line m)) (Err (Line n)) → Some m ≡ Some n
+same_line e = cc
+
 module _ (text mem : List ℕ) where
-  abbrev pub Bad : ℕ
+  abbrev pub Bad : Option ℕ
   Bad = first_bad_of (length mem) 0 1 (lines_of text)
 
-  -- a text is refused, with no start address and memory as it was, or it has no bad line
-  pub verdict : {A : Type 0}
-      → ((refusal line : ℕ) → (refusal ≡ 0 → ⊥) → (answered refusal line no_start mem).answer ≡ (load_hex_of text mem).answer → mem
-      ≡ (load_hex_of text mem).memory → A)
-      → (memory_refused_of (length mem) ≡ false → Bad ≡ 0 → A) → A
-  verdict f g =
-      by_test (memory_refused_of (length mem))
-      (λ e. let (a, m) = refused_2 text mem e in f 2 0 (λ z. omega arith) a m)
-      (λ e. by_test (eqb Bad 0) (λ z. g e (eqb-true Bad 0 z)) (λ z.
-      let (a, m) = refused_6 text mem e Bad refl (eqb-false Bad 0 z) in f 6 Bad (λ w. omega arith) a m))
+  -- memory is refused, or the text has a bad line, or it has none
+  verdict : {A : Type 0}
+      → (load_hex_of text mem ≡ refused_with Memory mem → A)
+      → ((n : ℕ) → Bad ≡ Some n → load_hex_of text mem ≡ refused_with (Line n) mem → A)
+      → (memory_refused_of (length mem) ≡ false → Bad ≡ None → load_hex_of text mem ≡ accepted_with mem (lines_of text) → A) → A
+  verdict f g h =
+      by_test (memory_refused_of (length mem)) (λ e. f (refused_2 text mem e)) (λ e. by_line Bad
+      (λ n z. g n z (by_bad text mem e ∙ ap (λ (bad : Option ℕ). judged bad mem (lines_of text)) z))
+      (λ z. h e z (taken text mem e z)))
 
-  pub refused_changes_nothing : ((load_hex_of text mem).answer.refusal ≡ 0 → ⊥)
-      → ((load_hex_of text mem).memory ≡ mem) × ((load_hex_of text mem).answer.given ≡ 0) × ((load_hex_of text mem).answer.start ≡ 0)
+  -- a refused text has no start address, by its type
+  pub refused_changes_nothing : IsErr (load_hex_of text mem).answer → (load_hex_of text mem).memory ≡ mem
   refused_changes_nothing h =
-      verdict
-      (λ _ _ _ a m. (sym m, sym (ap (λ (x : Loaded). x.given) a), sym (ap (λ (x : Loaded). x.start) a)))
-      (λ e z. absurd (h (sym (ap (λ (x : Loaded). x.refusal) (taken text mem e Bad refl z).0))))
+      verdict (λ q. ap memory_of q) (λ _ _ q. ap memory_of q) (λ _ _ q. absurd_answer (ap answer_of q) h)
 
   -- of a text with a bad line every line before the one that is named is good
-  pub named_first : (load_hex_of text mem).answer.refusal ≡ 6 → all_good (length mem) 0 (take ((load_hex_of text mem).answer.line - 1) (lines_of text)) ≡ true
-  named_first h =
-      let number : Loaded → ℕ = λ x. x.refusal in
-      by_test (memory_refused_of (length mem))
-      (λ e. let y = ap number (refused_2 text mem e).0 in absurd (omega arith))
-      (λ e. by_test (eqb Bad 0)
-      (λ z. let y = ap number (taken text mem e Bad refl (eqb-true Bad 0 z)).0 in absurd (omega arith))
-      (λ z. rw (ap (λ (x : Loaded). x.line) (refused_6 text mem e Bad refl (eqb-false Bad 0 z)).0) at
-      (good_before (length mem) 0 1 (lines_of text))))
+  pub named_first : (n : ℕ) → (load_hex_of text mem).answer ≡ Err (Line n) → all_good (length mem) 0 (take (n - 1) (lines_of text)) ≡ true
+  named_first n h =
+      verdict
+      (λ q. other_refusal (sym (ap answer_of q) ∙ h))
+      (λ m z q. good_before (length mem) 0 1 n (lines_of text) (z ∙ same_line (sym (ap answer_of q) ∙ h)))
+      (λ _ _ q. no_refusal (sym (ap answer_of q) ∙ h))
 
   -- an accepted text has no bad line
-  module _ (h : (load_hex_of text mem).answer.refusal ≡ 0) where
-    pub accepted : (memory_refused_of (length mem) ≡ false) × (Bad ≡ 0)
-    accepted = verdict (λ n _ ne a _. absurd (ne (ap (λ (x : Loaded). x.refusal) a ∙ h))) (λ e z. (e, z))
+  module _ (h : IsOk (load_hex_of text mem).answer) where
+    pub accepted : (memory_refused_of (length mem) ≡ false) × (Bad ≡ None)
+    accepted = verdict (λ q. refused_answer (ap answer_of q) h) (λ _ _ q. refused_answer (ap answer_of q) h) (λ e z _. (e, z))
 
     pub all_good_lem : all_good (length mem) 0 (lines_of text) ≡ true
-    all_good_lem = none_bad (length mem) 0 1 (lines_of text) (omega arith) accepted.1
+    all_good_lem = none_bad (length mem) 0 1 (lines_of text) accepted.1
 
 -- every byte, after good lines
 pub length_stored : (upper : ℕ) (mem : List ℕ) (ls : List (List ℕ)) → length (stored upper mem ls) ≡ length mem
@@ -97,9 +112,9 @@ last_wins upper [] l back j old n m =
     ∙ unnamed (upper_after_of upper l) back j (data_at upper l j) m
 last_wins upper (f ∷ front) l back j old n m = last_wins (upper_after_of upper f) front l back j _ n m
 
-module _ (text mem : List ℕ) (h : (load_hex_of text mem).answer.refusal ≡ 0) where
+module _ (text mem : List ℕ) (h : IsOk (load_hex_of text mem).answer) where
   pub accepted_memory : (load_hex_of text mem).memory ≡ stored 0 mem (lines_of text)
-  accepted_memory = let (e, z) = accepted text mem h in sym (taken text mem e (Bad text mem) refl z).1
+  accepted_memory = let (e, z) = accepted text mem h in ap memory_of (taken text mem e z)
 
   pub accepted_byte : (j : ℕ) → get_or (load_hex_of text mem).memory j 0 ≡ byte_after 0 (lines_of text) j (get_or mem j 0)
   accepted_byte j = rw accepted_memory (stored_byte 0 mem (lines_of text) (all_good_lem text mem h) j)

@@ -3,13 +3,12 @@ pub mod Digits
 pub mod Lookup
 pub mod Pairs
 pub mod Lines
-pub mod Scans
 pub mod Good
 pub mod Turns
-pub mod Whole
-pub mod Readings
+pub mod Begins
 pub mod Loads
 pub mod Named
 pub mod Bytes
 pub mod Kept
 pub mod Order
+pub mod Records

@@ -1,21 +1,21 @@
--- The lines of a text, told from places in it.
+-- The lines of a text, told from its first bytes.
 -- Assumes nothing.
 use mathlib.Core.Bool.{true, false, ◌&&◌}
 use mathlib.Core.List.{List, [], ◌∷◌}
-use mathlib.Core.Path.{◌≡◌, refl, ap, ◌∙◌}
-use Prim.Native.Nat.{ℕ, ◌+◌, ◌<◌, ◌≤◌}
-use native.Mathlib.Nat.{add-zero}
-use native.Mathlib.Numerals.{add-one}
+use mathlib.Core.Path.{◌≡◌, refl, sym, ap, ◌∙◌}
+use Prim.Native.Nat.{ℕ, ◌-◌, ◌<◌, ◌≤◌}
 use native.Mathlib.Omega.{arith}
-use borrow.Author.Tests.{eq-eqb, ne_eqb, eqb-true}
+use borrow.Author.Tests.{eq-eqb, ne_eqb, eqb-true, eqb-false}
 use lib.Dec.{eqb}
-use lib.ListN.{length, get_or, take, drop, drop_of_length-le}
-use lib.Seq.{drop-cons, drop-drop, get_or-drop}
+use lib.ListN.{length, get_or, take, drop}
+use lib.Seq.{take_all}
+use Rattle.std.specs.Prelude.{Option, Some, None, MatchOption, ◌≢◌}
+use denote.Bor.{Bor}
 use Rattle.word.proofs.Bools.{both}
 use Rattle.word.proofs.Choices.{first, second}
 use Rattle.intel_hex.specs.Lines.{begins, lines_of}
 use Rattle.intel_hex.specs.Load.{text_after}
-use Rattle.intel_hex.specs.Inner.{first_of, others_of, line_at, lines_behind, Ends}
+use Rattle.intel_hex.specs.Inner.{first_of, others_of, Ends}
 use Rattle.intel_hex.proofs.Digits.{by_test}
 
 pub none : lines_of [] ≡ []
@@ -68,61 +68,74 @@ split (b ∷ rest) =
     (λ more e. let (p, q) = parts e in rw p (refl, p, refl))
     (λ e. let (p, q) = parts e in let (f, g, h) = split rest in rw (p, q) (ap (λ (l : List ℕ). b ∷ l) f, g, h))
 
--- places in a text
-module _ (t : List ℕ) (i : ℕ) where
-  module _ (h : i < length t) where
-    pub at_place : drop i t ≡ get_or t i 0 ∷ drop (i + 1) t
-    at_place = rw add-one (drop-cons t i 0 h)
+pub some : (u : List ℕ) → 0 < length u → lines_of u ≡ first_of (lines_of u) ∷ others_of (lines_of u)
+some [] h = absurd (omega arith)
+some (b ∷ rest) h = by_first b rest (λ more e. let (p, q) = parts e in rw (p, q) e) (λ e. let (p, q) = parts e in rw (p, q) e)
 
-    pub some : lines_of (drop i t) ≡ line_at t i ∷ lines_behind t i
-    some =
-        rw at_place
-        (by_first (get_or t i 0) (drop (i + 1) t)
-        (λ more e. let (p, q) = parts e in rw (p, q) e)
-        (λ e. let (p, q) = parts e in rw (p, q) e))
+-- a byte that is neither LF nor CR belongs to the line
+pub goes_on : (b : ℕ) (u : List ℕ) → (b ≡ 10 → ⊥) → (b ≡ 13 → ⊥)
+    → (first_of (lines_of (b ∷ u)) ≡ b ∷ first_of (lines_of u)) × (others_of (lines_of (b ∷ u)) ≡ others_of (lines_of u))
+goes_on b u n m = parts (on b u (ne_eqb b 10 n) (rw (ne_eqb b 13 m)))
 
-    -- the byte is the first of what the line is from there on, if it is anything
-    pub first_byte : {A : Type 0} → (line_at t i ≡ [] → A) → (line_at t i ≡ get_or t i 0 ∷ line_at t (i + 1) → A) → A
-    first_byte f g =
-        by_first (get_or t i 0) (drop (i + 1) t)
-        (λ more e. f (rw at_place (parts e).0))
-        (λ e. g (rw at_place (parts e).0))
+-- a line ends where a text begins
+ended : {text rest : List ℕ} → lines_of text ≡ [] ∷ lines_of rest → length rest ≤ length text → Ends text rest
+ended e h = record { here = (parts e).0; behind = (parts e).1; shorter = h }
 
-    pub goes_on : (get_or t i 0 ≡ 10 → ⊥) → (get_or t i 0 ≡ 13 → get_or t (i + 1) 0 ≡ 10 → ⊥)
-        → (line_at t i ≡ get_or t i 0 ∷ line_at t (i + 1)) × (lines_behind t i ≡ lines_behind t (i + 1))
-    goes_on n m =
-        let e : get_or (drop (i + 1) t) 0 0 ≡ get_or t (i + 1) 0 = get_or-drop (i + 1) t 0 0 ∙ rw add-zero in
-        let f : eqb (get_or t i 0) 13 && eqb (get_or (drop (i + 1) t) 0 0) 10 ≡ false =
-        by_test (eqb (get_or t i 0) 13) (λ x. rw (x, e) (ne_eqb (get_or t (i + 1) 0) 10 (m (eqb-true (get_or t i 0) 13 x)))) (λ x. rw x) in
-        rw at_place (parts (on (get_or t i 0) (drop (i + 1) t) (ne_eqb (get_or t i 0) 10 n) f))
+pub ends_text : (text : List ℕ) → length text ≡ 0 → Ends text text
+unfolding lines_of first_of others_of
+ends_text [] h = record { here = refl; behind = refl; shorter = omega arith }
+ends_text (b ∷ rest) h = absurd (omega arith)
 
-    pub ends_on : (get_or t i 0 ≡ 10 → ⊥) → (get_or t i 0 ≡ 13 → get_or t (i + 1) 0 ≡ 10 → ⊥) → Ends t i 0
-    ends_on n m = record { goes = λ z. rw (goes_on n m).0 (omega arith); ends = λ z. absurd (omega arith) }
+rest_is : (b : ℕ) (rest : List ℕ) → take (length (b ∷ rest) - 1) rest ≡ rest
+rest_is b rest = take_all (length (b ∷ rest) - 1) rest (omega arith)
 
-  -- a line ends here
-  ended : (r : ℕ) → lines_of (drop i t) ≡ [] ∷ lines_of (drop r t) → i < r → r ≤ length t → Ends t i r
-  ended r e p q = record { goes = λ z. absurd (omega arith); ends = λ z. ((parts e).0, (parts e).1, omega arith, q) }
+pub ends_lf : (text : List ℕ) → 0 < length text → get_or text 0 0 ≡ 10 → Ends text (take (length text - 1) (drop 1 text))
+ends_lf [] h e = absurd (omega arith)
+ends_lf (b ∷ rest) h e = rw (rest_is b rest) (ended (fed (b ∷ rest) e) (omega arith))
 
-  pub ends_lf : i < length t → get_or t i 0 ≡ 10 → Ends t i (i + 1)
-  ends_lf h e = ended (i + 1) (rw drop-drop at (fed (drop i t) (get_or-drop i t 0 0 ∙ rw add-zero e))) (omega arith) (omega arith)
+pub ends_crlf : (text rest : List ℕ) → 0 < length text → get_or text 0 0 ≡ 13 → take (length text - 1) (drop 1 text) ≡ 10 ∷ rest → Ends text rest
+ends_crlf [] rest h e f = absurd (omega arith)
+ends_crlf (a ∷ more) rest h e f =
+    let g : more ≡ 10 ∷ rest = sym (rest_is a more) ∙ f in
+    rw g (ended (crlf a (10 ∷ rest) (ne_eqb a 10 (λ z. omega arith)) (rw (eq-eqb a 13 e))) (omega arith))
 
-  pub ends_crlf : i + 1 < length t → get_or t i 0 ≡ 13 → get_or t (i + 1) 0 ≡ 10 → Ends t i (i + 2)
-  ends_crlf h c e =
-      let f : get_or (drop (i + 1) t) 0 0 ≡ 10 = get_or-drop (i + 1) t 0 0 ∙ rw add-zero e in
-      let g : i + 1 + 1 ≡ i + 2 = omega arith in
-      let k = crlf (get_or t i 0) (drop (i + 1) t) (ne_eqb (get_or t i 0) 10 (λ z. omega arith))
-      (rw (eq-eqb (get_or t i 0) 13 c, eq-eqb (get_or (drop (i + 1) t) 0 0) 10 f)) in
-      ended (i + 2) (rw (at_place (omega arith)) (rw (drop-drop, g) at k)) (omega arith) (omega arith)
+pub on_end : (text : List ℕ) → 0 < length text → (get_or text 0 0 ≡ 10 → ⊥) → (get_or text 0 0 ≡ 13 → get_or text 1 0 ≡ 10 → ⊥) → 0 < length (first_of (lines_of text))
+on_end [] h n m = absurd (omega arith)
+on_end (b ∷ rest) h n m =
+    let f : eqb b 13 && eqb (get_or rest 0 0) 10 ≡ false =
+    by_test (eqb b 13) (λ x. rw (x, ne_eqb (get_or rest 0 0) 10 (m (eqb-true b 13 x)))) (λ x. rw x) in
+    rw (parts (on b rest (ne_eqb b 10 n) f)).0 (omega arith)
 
-  pub ends_text : 0 < i → length t ≤ i → i ≤ length t → Ends t i i
-  unfolding lines_of first_of others_of
-  ends_text p h k = record { goes = λ z. absurd (omega arith); ends = λ z. rw (drop_of_length-le t {i = i} h) (refl, refl, omega arith, k) }
+-- a CR, with or without its LF
+pub on_cr : (text : List ℕ) → 0 < length text → get_or text 0 0 ≡ 13 → ((rest : List ℕ) → take (length text - 1) (drop 1 text) ≡ 10 ∷ rest → ⊥)
+    → 0 < length (first_of (lines_of text))
+on_cr [] h e f = absurd (omega arith)
+on_cr (a ∷ []) h e f = on_end (a ∷ []) h (λ z. omega arith) (λ _ z. omega arith)
+on_cr (a ∷ b ∷ rest) h e f =
+    on_end (a ∷ b ∷ rest) h (λ z. omega arith) (λ _ z. f rest (rest_is a (b ∷ rest) ∙ ap (λ (x : ℕ). x ∷ rest) z))
 
-  -- text follows exactly if there is a byte
-  pub follows : (m : ℕ) → i < length t → m ≡ text_after m (lines_of (drop i t))
-  unfolding text_after
-  follows m h = rw (some h)
+pub after_cr : (text : List ℕ) → 0 < length text → get_or text 0 0 ≡ 13 → (r : Option (Bor (List ℕ)))
+    → MatchOption r ((rest : List ℕ) → take (length text - 1) (drop 1 text) ≢ 10 ∷ rest) (λ x. take (length text - 1) (drop 1 text) ≡ 10 ∷ x.now)
+    → MatchOption r (0 < length (first_of (lines_of text))) (λ x. Ends text x.now)
+after_cr text h e None m = on_cr text h e m
+after_cr text h e (Some x) m = ends_crlf text x.now h e m
 
-  pub nothing_follows : (m : ℕ) → length t ≤ i → 0 ≡ text_after m (lines_of (drop i t))
-  unfolding text_after
-  nothing_follows m h = rw (drop_of_length-le t {i = i} h, none)
+no_lines : (u : List ℕ) → length u ≡ 0 → lines_of u ≡ []
+no_lines [] h = none
+no_lines (b ∷ rest) h = absurd (omega arith)
+
+-- what a test for an empty text tells
+pub some_left : (u : List ℕ) → false ≡ eqb (length u) 0 → 0 < length u
+some_left u e = let d = eqb-false (length u) 0 (sym e) in omega arith
+
+pub none_left : (u : List ℕ) → true ≡ eqb (length u) 0 → lines_of u ≡ []
+none_left u e = no_lines u (eqb-true (length u) 0 (sym e))
+
+-- text follows exactly if there is a byte
+pub follows : (u : List ℕ) (m : ℕ) → false ≡ eqb (length u) 0 → text_after m (lines_of u) ≡ Some m
+unfolding text_after
+follows u m h = rw (some u (some_left u h))
+
+pub nothing_follows : (u : List ℕ) (m : ℕ) → true ≡ eqb (length u) 0 → text_after m (lines_of u) ≡ None
+unfolding text_after
+nothing_follows u m h = rw (none_left u h)

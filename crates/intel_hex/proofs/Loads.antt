@@ -2,28 +2,52 @@
 -- Assumes nothing.
 use mathlib.Core.Bool.{true, false}
 use mathlib.Core.List.{List}
-use mathlib.Core.Path.{◌≡◌, refl}
+use mathlib.Core.Path.{◌≡◌, refl, ap, ◌∙◌}
 use Prim.Native.Nat.{ℕ}
-use borrow.Author.Tests.{eq-eqb, ne_eqb}
 use lib.ListN.{length}
+use Rattle.std.specs.Prelude.{Option, Some, None, Result, Ok, Err}
 use Rattle.memory.specs.Refusal.{memory_refused_of}
 use Rattle.intel_hex.specs.Lines.{lines_of}
-use Rattle.intel_hex.specs.Load.{HexCalled, no_start, last_start, first_bad_of, stored, answered, load_hex_of}
+use Rattle.intel_hex.specs.Load.{HexCalled, last_start, first_bad_of, stored, refused_with, judged, load_hex_of}
+use Rattle.intel_hex.specs.Inner.{verdict_of}
+use Rattle.intel_hex.specs.declared.Refusal.{Refusal}
+use Rattle.intel_hex.specs.declared.Refusal.TheVariants.{Memory, Line}
+
+-- the parts of what a load leaves, and the answer with a start address
+abbrev pub answer_of : HexCalled → Result (Option ℕ) Refusal
+answer_of c = c.answer
+
+abbrev pub memory_of : HexCalled → List ℕ
+memory_of c = c.memory
+
+abbrev pub start_answer : Option ℕ → Result (Option ℕ) Refusal
+start_answer s = Ok s
+
+abbrev pub accepted_with : (mem : List ℕ) → (ls : List (List ℕ)) → HexCalled
+accepted_with mem ls = record { answer = Ok (last_start None ls); memory = stored 0 mem ls }
+
+-- what a verdict says of the first bad line, and of a load
+pub told_good : (bad s t : Option ℕ) → verdict_of bad s ≡ Ok t → (bad ≡ None) × (s ≡ t)
+told_good None s t e = (refl, cc)
+told_good (Some n) s t e = cc
+
+told_bad : (bad : Option ℕ) (mem : List ℕ) (ls : List (List ℕ)) (s : Option ℕ) (e : Refusal) → verdict_of bad s ≡ Err e → judged bad mem ls ≡ refused_with e mem
+told_bad None mem ls s e h = cc
+told_bad (Some n) mem ls s e h = let q : Line n ≡ e = cc in ap (λ (r : Refusal). refused_with r mem) q
 
 module _ (text mem : List ℕ) where
-  -- answer and memory are the load's
-  abbrev Left : HexCalled → Type 0
-  Left c = (c.answer ≡ (load_hex_of text mem).answer) × (c.memory ≡ (load_hex_of text mem).memory)
-
-  pub refused_2 : memory_refused_of (length mem) ≡ true → Left (answered 2 0 no_start mem)
+  pub refused_2 : memory_refused_of (length mem) ≡ true → load_hex_of text mem ≡ refused_with Memory mem
   unfolding load_hex_of
-  refused_2 e = rw e (refl, refl)
+  refused_2 e = rw e refl
 
-  module _ (ok : memory_refused_of (length mem) ≡ false) (bad : ℕ) (f : bad ≡ first_bad_of (length mem) 0 1 (lines_of text)) where
-    pub refused_6 : (bad ≡ 0 → ⊥) → Left (answered 6 bad no_start mem)
+  module _ (ok : memory_refused_of (length mem) ≡ false) where
+    pub by_bad : load_hex_of text mem ≡ judged (first_bad_of (length mem) 0 1 (lines_of text)) mem (lines_of text)
     unfolding load_hex_of
-    refused_6 n = rw (ok, ← f, ne_eqb bad 0 n) (refl, refl)
+    by_bad = rw ok refl
 
-    pub taken : bad ≡ 0 → Left (answered 0 0 (last_start no_start (lines_of text)) (stored 0 mem (lines_of text)))
-    unfolding load_hex_of
-    taken e = rw (ok, ← f, eq-eqb bad 0 e) (refl, refl)
+    pub refused_6 : (s : Option ℕ) (e : Refusal) → verdict_of (first_bad_of (length mem) 0 1 (lines_of text)) s ≡ Err e
+        → load_hex_of text mem ≡ refused_with e mem
+    refused_6 s e h = by_bad ∙ told_bad (first_bad_of (length mem) 0 1 (lines_of text)) mem (lines_of text) s e h
+
+    pub taken : first_bad_of (length mem) 0 1 (lines_of text) ≡ None → load_hex_of text mem ≡ accepted_with mem (lines_of text)
+    taken e = by_bad ∙ ap (λ (bad : Option ℕ). judged bad mem (lines_of text)) e

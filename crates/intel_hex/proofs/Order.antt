@@ -6,17 +6,16 @@ use mathlib.Core.Path.{◌≡◌, refl, sym, ap, ◌∙◌}
 use Prim.Native.Nat.{ℕ, ◌+◌}
 use lib.ListN.{length, get_or}
 use lib.Seq.{ext_get_or}
+use Rattle.std.specs.Prelude.{Option, None, IsOk, is_ok}
 use Rattle.word.specs.Choice.{pick}
 use Rattle.word.proofs.Bools.{both}
 use Rattle.intel_hex.specs.Lines.{lines_of}
 use Rattle.intel_hex.specs.Line.{record_type_of, good}
-use Rattle.intel_hex.specs.Load.{upper_after_of, text_after, first_bad_of, no_start, start_after_of, last_start, answered, load_hex_of}
+use Rattle.intel_hex.specs.Load.{upper_after_of, text_after, first_bad_of, start_after_of, last_start, load_hex_of}
 use Rattle.intel_hex.proofs.Named.{names, upper_at, data_at, byte_after}
 use Rattle.intel_hex.specs.Inner.{all_good}
-use Rattle.intel_hex.specs.declared.line.Start.{Start}
-use Rattle.intel_hex.specs.declared.Loaded.{Loaded}
 use Rattle.intel_hex.proofs.Kept.{Bad, accepted, all_good_lem, length_stored, accepted_memory, accepted_byte}
-use Rattle.intel_hex.proofs.Loads.{taken}
+use Rattle.intel_hex.proofs.Loads.{answer_of, start_answer, taken}
 
 crossed : (a b : Bool) (x y old : ℕ) → a && b ≡ false → pick b y (pick a x old) ≡ pick a x (pick b y old)
 crossed true true x y old h = cc
@@ -34,7 +33,7 @@ data_upper : (upper : ℕ) (l : List ℕ) → record_type_of l ≡ 0 → upper_a
 unfolding upper_after_of
 data_upper upper l e = rw e
 
-data_start : (s : Start) (l : List ℕ) → record_type_of l ≡ 0 → start_after_of s l ≡ s
+data_start : (s : Option ℕ) (l : List ℕ) → record_type_of l ≡ 0 → start_after_of s l ≡ s
 unfolding start_after_of
 data_start s l e = rw e
 
@@ -56,10 +55,10 @@ module _ (k l : List ℕ) (back : List (List ℕ)) (p : record_type_of k ≡ 0) 
   bad_turned len upper n [] g h = rw (g, h, p, q, g, h)
   bad_turned len upper n (f ∷ front) g h = rw (text_turned (n + 1) front, bad_turned len (upper_after_of upper f) (n + 1) front g h)
 
-  start_turned : (s : Start) (front : List (List ℕ)) → last_start s (front ++ k ∷ l ∷ back) ≡ last_start s (front ++ l ∷ k ∷ back)
+  start_turned : (s : Option ℕ) (front : List (List ℕ)) → last_start s (front ++ k ∷ l ∷ back) ≡ last_start s (front ++ l ∷ k ∷ back)
   unfolding last_start
   start_turned s [] =
-      ap (λ (t : Start). last_start t back) (data_start (start_after_of s k) l q ∙ data_start s k p
+      ap (λ (t : Option ℕ). last_start t back) (data_start (start_after_of s k) l q ∙ data_start s k p
       ∙ sym (data_start (start_after_of s l) k p ∙ data_start s l q))
   start_turned s (f ∷ front) = start_turned (start_after_of s f) front
 
@@ -79,18 +78,19 @@ module _ (k l : List ℕ) (back : List (List ℕ)) (p : record_type_of k ≡ 0) 
   -- a text that has the two the other way round does the same
   pub order : (text text' mem : List ℕ) (front : List (List ℕ)) → lines_of text ≡ front ++ k ∷ l ∷ back → lines_of text' ≡ front ++ l ∷ k ∷ back
       → ((j : ℕ) → names (upper_at 0 front) k j && names (upper_at 0 front) l j ≡ false)
-      → (load_hex_of text mem).answer.refusal ≡ 0
+      → IsOk (load_hex_of text mem).answer
       → ((load_hex_of text' mem).answer ≡ (load_hex_of text mem).answer) × ((load_hex_of text' mem).memory ≡ (load_hex_of text mem).memory)
   order text text' mem front e f d h =
       let (ok, z) = accepted text mem h in
       let (gk, gl) = goods (length mem) (upper_at 0 front) (all_behind (length mem) 0 front (k ∷ l ∷ back) (rw e at (all_good_lem text mem h))) in
-      let z' : Bad text' mem ≡ 0 = rw f (sym (bad_turned (length mem) 0 1 front gk gl) ∙ rw e at z) in
-      let s : last_start no_start (lines_of text') ≡ last_start no_start (lines_of text) = rw (e, f) (sym (start_turned no_start front)) in
-      let a = sym (taken text' mem ok (Bad text' mem) refl z').0 in
-      let h' = ap (λ (x : Loaded). x.refusal) a in
+      let z' : Bad text' mem ≡ None = rw f (sym (bad_turned (length mem) 0 1 front gk gl) ∙ rw e at z) in
+      let s : last_start None (lines_of text') ≡ last_start None (lines_of text) = rw (e, f) (sym (start_turned None front)) in
+      let a = ap answer_of (taken text' mem ok z') in
+      let b = ap answer_of (taken text mem ok z) in
+      let h' : IsOk (load_hex_of text' mem).answer = ap is_ok a in
       let m = accepted_memory text mem h in
       let m' = accepted_memory text' mem h' in (
-        a ∙ ap (λ (x : Start). (answered 0 0 x mem).answer) s ∙ (taken text mem ok (Bad text mem) refl z).0,
+        a ∙ ap start_answer s ∙ sym b,
         ext_get_or 0 _ _ (ap length m' ∙ length_stored 0 mem (lines_of text') ∙ sym (ap length m ∙ length_stored 0 mem (lines_of text)))
             (λ j _. accepted_byte text' mem h' j ∙ rw (e, f) (sym (byte_turned 0 front j (get_or mem j 0) (d j))) ∙ sym (accepted_byte text mem h j)),
       )

@@ -2,31 +2,47 @@
 -- Assumes nothing.
 use mathlib.Core.Bool.{Bool, true, false, ◌&&◌}
 use mathlib.Core.List.{List, [], ◌∷◌}
-use mathlib.Core.Path.{◌≡◌, refl}
-use Prim.Native.Nat.{ℕ, suc, ◌+◌, ◌-◌, ◌<◌, ◌≤◌}
+use mathlib.Core.Path.{◌≡◌, refl, sym, ◌∙◌}
+use Prim.Native.Nat.{ℕ, suc, ◌+◌, ◌-◌}
 use native.Mathlib.Omega.{arith}
 use borrow.Author.Tests.{eq-eqb, ne_eqb, eqb-true, eqb-false}
 use lib.Dec.{eqb}
 use lib.ListN.{take}
 use lib.Seq.{take-nil}
+use Rattle.std.specs.Prelude.{Option, Some, None, Ok, Err}
 use Rattle.word.specs.Choice.{pick}
 use Rattle.word.proofs.Bools.{both}
 use Rattle.word.proofs.Either.{either}
 use Rattle.intel_hex.specs.Line.{record_type_of, good}
 use Rattle.intel_hex.specs.Load.{upper_after_of, start_after_of, last_start, text_after, first_bad_of, placed, stored}
-use Rattle.intel_hex.specs.Inner.{all_good}
-use Rattle.intel_hex.specs.declared.line.Start.{Start}
+use Rattle.intel_hex.specs.Inner.{verdict_of, all_good}
+use Rattle.intel_hex.specs.declared.Refusal.TheVariants.{Line}
 use Rattle.intel_hex.proofs.Digits.{by_test}
 
 -- nothing follows where no line after the end record is bad
-pub no_text : (n : ℕ) (ls : List (List ℕ)) → 0 < n → text_after n ls ≡ 0 → ls ≡ []
+pub no_text : (n : ℕ) (ls : List (List ℕ)) → text_after n ls ≡ None → ls ≡ []
 unfolding text_after
-no_text n [] h e = refl
-no_text n (l ∷ ls) h e = absurd (omega arith)
+no_text n [] e = refl
+no_text n (l ∷ ls) e = cc
+
+-- the verdict on no lines, and by what is known of the first bad one
+pub no_end : (len upper n : ℕ) {ls : List (List ℕ)} → ls ≡ [] → first_bad_of len upper n ls ≡ Some n
+unfolding first_bad_of
+no_end len upper n e = rw e
+
+pub no_more : (s : Option ℕ) {ls : List (List ℕ)} → ls ≡ [] → last_start s ls ≡ s
+unfolding last_start
+no_more s e = rw e
+
+pub bad_verdict : (bad s : Option ℕ) (n : ℕ) → bad ≡ Some n → Err (Line n) ≡ verdict_of bad s
+bad_verdict bad s n e = rw e
+
+pub good_verdict : (bad s t : Option ℕ) → bad ≡ None → t ≡ s → Ok s ≡ verdict_of bad t
+good_verdict bad s t e f = rw (e, f)
 
 -- the lines are l and what follows it
 module _ (len upper : ℕ) {ls : List (List ℕ)} {l : List ℕ} {more : List (List ℕ)} (e : ls ≡ l ∷ more) where
-  pub bad_line : (n : ℕ) → good len upper l ≡ false → first_bad_of len upper n ls ≡ n
+  pub bad_line : (n : ℕ) → good len upper l ≡ false → first_bad_of len upper n ls ≡ Some n
   unfolding first_bad_of
   bad_line n g = rw (e, g)
 
@@ -38,7 +54,7 @@ module _ (len upper : ℕ) {ls : List (List ℕ)} {l : List ℕ} {more : List (L
   unfolding first_bad_of
   end_line n g k = rw (e, g, eq-eqb (record_type_of l) 1 k)
 
-  pub start_line : (s : Start) → last_start s ls ≡ last_start (start_after_of s l) more
+  pub start_line : (s : Option ℕ) → last_start s ls ≡ last_start (start_after_of s l) more
   unfolding last_start
   start_line s = rw e
 
@@ -51,19 +67,19 @@ module _ (len upper : ℕ) {ls : List (List ℕ)} {l : List ℕ} {more : List (L
   all_line h = both (good len upper l) (all_good len (upper_after_of upper l) more) (rw e at h)
 
 -- where no line is bad, every line is good
-step : (g k rest : Bool) (a b n : ℕ) → 0 < n → pick g (pick k a b) n ≡ 0 → (a ≡ 0 → rest ≡ true) → (b ≡ 0 → rest ≡ true) → g && rest ≡ true
-step true true rest a b n h e f i = f e
-step true false rest a b n h e f i = i e
-step false k rest a b n h e f i = absurd (omega arith)
+step : (g k rest : Bool) (a b : Option ℕ) (n : ℕ) → pick g (pick k a b) (Some n) ≡ None → (a ≡ None → rest ≡ true) → (b ≡ None → rest ≡ true) → g && rest ≡ true
+step true true rest a b n e f i = f e
+step true false rest a b n e f i = i e
+step false k rest a b n e f i = cc
 
-pub none_bad : (len upper n : ℕ) (ls : List (List ℕ)) → 0 < n → first_bad_of len upper n ls ≡ 0 → all_good len upper ls ≡ true
+pub none_bad : (len upper n : ℕ) (ls : List (List ℕ)) → first_bad_of len upper n ls ≡ None → all_good len upper ls ≡ true
 unfolding first_bad_of all_good
-none_bad len upper n [] h e = refl
-none_bad len upper n (l ∷ ls) h e =
+none_bad len upper n [] e = refl
+none_bad len upper n (l ∷ ls) e =
     step (good len upper l) (eqb (record_type_of l) 1) (all_good len (upper_after_of upper l) ls) (text_after (n + 1) ls)
-    (first_bad_of len (upper_after_of upper l) (n + 1) ls) n h e
-    (λ t. rw (no_text (n + 1) ls (omega arith) t))
-    (λ t. none_bad len (upper_after_of upper l) (n + 1) ls (omega arith) t)
+    (first_bad_of len (upper_after_of upper l) (n + 1) ls) n e
+    (λ t. rw (no_text (n + 1) ls t))
+    (λ t. none_bad len (upper_after_of upper l) (n + 1) ls t)
 
 -- every line before the first bad one is good
 front : (len upper m n : ℕ) (l : List ℕ) (ls : List (List ℕ)) → good len upper l ≡ true → all_good len (upper_after_of upper l) (take (m - (n + 1)) ls)
@@ -75,22 +91,26 @@ front len upper m n l ls g h =
     (λ k. let e : m - n ≡ suc (m - (n + 1)) = omega arith in rw (e, g) h)
     (λ k. let e : m - n ≡ 0 = omega arith in rw e)
 
-text_next : (n : ℕ) (ls : List (List ℕ)) → text_after n ls ≤ n
+text_next : (n m : ℕ) (ls : List (List ℕ)) → text_after n ls ≡ Some m → n ≡ m
 unfolding text_after
-text_next n [] = omega arith
-text_next n (l ∷ ls) = omega arith
+text_next n m [] e = cc
+text_next n m (l ∷ ls) e = cc
 
-pub good_before : (len upper n : ℕ) (ls : List (List ℕ)) → all_good len upper (take (first_bad_of len upper n ls - n) ls) ≡ true
+pub good_before : (len upper n m : ℕ) (ls : List (List ℕ)) → first_bad_of len upper n ls ≡ Some m → all_good len upper (take (m - n) ls) ≡ true
 unfolding all_good
-good_before len upper n [] = rw take-nil
-good_before len upper n (l ∷ ls) =
+good_before len upper n m [] e = rw take-nil
+good_before len upper n m (l ∷ ls) e =
     by_test (good len upper l)
     (λ g. by_test (eqb (record_type_of l) 1)
     (λ k.
-    let t = text_next (n + 1) ls in
-    let e : text_after (n + 1) ls - (n + 1) ≡ 0 = omega arith in
-    rw (end_line len upper {more = ls} refl n g (eqb-true (record_type_of l) 1 k)) (front len upper (text_after (n + 1) ls) n l ls g (rw e)))
+    let t = text_next (n + 1) m ls (sym (end_line len upper {more = ls} refl n g (eqb-true (record_type_of l) 1 k)) ∙ e) in
+    let z : m - (n + 1) ≡ 0 = omega arith in
+    front len upper m n l ls g (rw z))
     (λ k.
-    rw (good_line len upper {more = ls} refl n g (eqb-false (record_type_of l) 1 k))
-    (front len upper (first_bad_of len (upper_after_of upper l) (n + 1) ls) n l ls g (good_before len (upper_after_of upper l) (n + 1) ls))))
-    (λ g. let e : n - n ≡ 0 = omega arith in rw (bad_line len upper {more = ls} refl n g, e))
+    front len upper m n l ls g (good_before len (upper_after_of upper l) (n + 1) m ls
+    (sym (good_line len upper {more = ls} refl n g (eqb-false (record_type_of l) 1 k)) ∙ e))))
+    (λ g.
+    let q : ◌≡◌ {A = Option ℕ} (Some n) (Some m) = sym (bad_line len upper {more = ls} refl n g) ∙ e in
+    let z : n ≡ m = cc in
+    let y : m - n ≡ 0 = omega arith in
+    rw y)

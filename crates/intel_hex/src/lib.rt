@@ -2,59 +2,61 @@
 #![tactic(auto)]
 
 ghost use Rattle.std.specs.Prelude.{◌≡◌};
-ghost use Rattle.intel_hex.specs.Load.{load_hex_of};
+ghost use Rattle.intel_hex.specs.Load.{number_of, line_of, load_hex_of};
 
 // Hex digits and pairs, and the table of them.
 mod pair;
-// A line of a text: its hex pairs, and its end.
+// The first line of a text: its hex pairs, and its end.
 mod scan;
-// One line: whether it is good, and what it sets.
+// One line: what it says, whether it is good, and what it sets.
 mod line;
-// The first pass: the first bad line.
+// The first pass: the first bad line, or the start address.
 mod verdict;
 // The second pass: the data into memory.
 mod store;
 
-// refusal is 0, 2 or 6; line is the first bad line of refusal 6, else 0; given is 1 if a start address was given, else 0.
-#[derive(Clone, Copy)]
-pub struct Loaded {
-    pub refusal: u64,
-    pub line: u64,
-    pub given: u64,
-    pub start: u64,
+// Why a load is refused.
+#[derive(Clone, Copy, PartialEq, Eq, Debug)]
+pub enum Refusal {
+    // Memory's length is none that is accepted.
+    Memory,
+    // The line of this number is the first bad one.
+    Line(u64),
 }
 
-fn refused(refusal: u64, line: u64) -> Loaded
-    ensures { result ≡ record { refusal = refusal; line = line; given = 0; start = 0 } }
-{
-    Loaded {
-        refusal,
-        line,
-        given: 0,
-        start: 0,
+impl Refusal {
+    // Refusals have numbers, for callers that know no enum.
+    pub fn number(self) -> u64
+        ensures { result ≡ number_of self }
+    {
+        match self {
+            Refusal::Memory => 2,
+            Refusal::Line(_) => 6,
+        }
+    }
+
+    // The first bad line; 0 where the refusal names none.
+    pub fn line(self) -> u64
+        ensures { result ≡ line_of self }
+    {
+        match self {
+            Refusal::Memory => 0,
+            Refusal::Line(n) => n,
+        }
     }
 }
 
-// Anything may be handed in. What a load answers and leaves of every byte of memory is stated in specs/Load.antt.
-pub fn load(text: &[u8], mem: &mut [u8]) -> Loaded
+// Anything may be handed in. A load answers with the start address, if the text gives one. What it answers and leaves of every byte of memory is stated
+// in specs/Load.antt.
+pub fn load(text: &[u8], mem: &mut [u8]) -> Result<Option<u64>, Refusal>
     ensures answer { result ≡ (load_hex_of text.now mem.old).answer }
     ensures memory { mem.new ≡ (load_hex_of text.now mem.old).memory }
 {
     if memory::refused(mem.len() as u64) {
-        return refused(2, 0);
+        return Err(Refusal::Memory);
     }
-    let t = pair::table();
-    let v = verdict::first_bad(&t, text, mem.len() as u64);
-    let bad = v.line;
-    if bad == 0 {
-        store::store(&t, text, mem);
-        let s = v.start;
-        return Loaded {
-            refusal: 0,
-            line: 0,
-            given: s.given,
-            start: s.address,
-        };
-    }
-    refused(6, bad)
+    let table = pair::Table::new();
+    let start = verdict::judge(&table, text, mem.len())?;
+    store::store(&table, text, mem);
+    Ok(start)
 }

@@ -1,103 +1,77 @@
-// A line of a text, whose count tells where it ends: its hex pairs up to there, and its end.
-ghost use Rattle.std.specs.Prelude.{◌≡◌, false, ◌+◌, ◌-◌, ◌%◌, ◌<◌, ◌≤◌, length};
-ghost use Rattle.intel_hex.specs.Inner.{IsTable, Judged, Ends, LineRead};
+// The first line of a text, whose count tells where it ends: its hex pairs up to there, and its end.
+ghost use Rattle.std.specs.Prelude.{◌≡◌, false, ◌&&◌, ◌%◌, ◌<◌, ◌≤◌, eqb, length, ℕ, MatchOption};
+ghost use Rattle.intel_hex.specs.Digits.{hex_pairs, pairs_of, total};
+ghost use Rattle.intel_hex.specs.Lines.{lines_of};
+ghost use Rattle.intel_hex.specs.Line.{good};
+ghost use Rattle.intel_hex.specs.Inner.{Framed, first_of, Ends, Begins};
 
-use super::pair;
+use super::line::Line;
+use super::pair::Table;
 
-// The sum of a line modulo 256; 256 where it is none that is as long as its count says. Else the line goes up to stop, and the next starts at next.
-#[derive(Clone, Copy)]
-pub struct Scan {
-    pub sum: u64,
-    pub stop: usize,
-    pub next: usize,
+// Whether bytes are hex pairs that add up to 0 modulo 256. No byte is tested by itself: one that is no digit makes the sum too large
+// (docs/SPEED.md).
+fn is_checked(table: &Table, digits: &[u8]) -> bool
+    requires { (length digits.now % 2 ≡ 0) × (length digits.now ≤ 520) }
+    ensures { result ≡ hex_pairs digits.now && eqb (total (pairs_of digits.now) % 256) 0 }
+{
+    let mut sum = 0;
+    let (pairs, _) = digits.as_chunks::<2>();
+    for &[high, low] in pairs {
+        sum += table.pair(high, low);
+    }
+    sum < 0x10_0000 && sum % 256 == 0
 }
 
-// A sum modulo 256; 256 where some byte of it was no digit. No byte is tested by itself: one that is no digit makes the sum too large.
-fn judged(sum: u64) -> u64
-    ensures { (sum < 0x10_0000 → result ≡ sum % 256) × (0x10_0000 ≤ sum → result ≡ 256) }
+// What follows, if the line ends here.
+pub fn end(text: &[u8]) -> Option<&[u8]>
+    ensures { MatchOption result (0 < length (first_of (lines_of text.now))) (λ rest. Ends text.now rest.now) }
 {
-    if sum < 0x10_0000 {
-        return sum % 256;
-    }
-    256
-}
-
-// What the hex pairs from one place to another add up to, modulo 256; 256 where some byte is no digit. It takes two pairs a turn, which is
-// quicker than one (docs/SPEED.md).
-fn pairs(t: &[u64; 512], text: &[u8], from: usize, stop: usize) -> u64
-    requires { IsTable t.now × (from ≤ stop) × (stop ≤ from + 520) × (stop ≤ length text.now) × ((stop - from) % 2 ≡ 0) }
-    ensures { Judged text.now from stop result }
-{
-    let mut sum: u64 = 0;
-    let mut i = from;
-    while i + 2 < stop {
-        sum = sum + pair::any(t, text, i) + pair::any(t, text, i + 2);
-        i = i + 4;
-    }
-    if i < stop {
-        return judged(sum + pair::any(t, text, i));
-    }
-    judged(sum)
-}
-
-// Where the next line starts, if the line ends at this place; else 0.
-pub fn end(text: &[u8], at: usize) -> usize
-    requires { (0 < at) × (at ≤ length text.now) }
-    ensures { Ends text.now at result }
-{
-    if at < text.len() {
-        if text[at] == 10 {
-            return at + 1;
-        }
-        if text[at] == 13 {
-            if at + 1 < text.len() {
-                if text[at + 1] == 10 {
-                    return at + 2;
-                }
-            }
-        }
-        return 0;
-    }
-    at
-}
-
-// No good line.
-fn none(at: usize) -> Scan
-    ensures { result.sum ≡ 256 }
-{
-    Scan {
-        sum: 256,
-        stop: at,
-        next: at,
+    match text {
+        [] => Some(text),
+        [b'\n', rest @ ..] => Some(rest),
+        [b'\r', rest @ ..] => rest.strip_prefix(b"\n"),
+        _ => None,
     }
 }
 
-// The line that starts at a place.
-pub fn read(t: &[u64; 512], text: &[u8], at: usize) -> Scan
-    requires { IsTable t.now × (at < length text.now) }
-    ensures { LineRead text.now at result.sum result.stop result.next }
+// The first line, and what follows it; none where the first line is not good.
+pub fn first<'a>(table: &'a Table, text: &'a [u8]) -> Option<(Line<'a>, &'a [u8])>
+    requires { 0 < length text.now }
+    ensures { MatchOption result ((len upper : ℕ) → good len upper (first_of (lines_of text.now)) ≡ false) (λ p. Begins text.now p.0.text.now p.1.now) }
 {
-    if text[at] != 58 {
-        return none(at);
+    if text[0] != b':' || text.len() < 11 {
+        return None;
     }
-    if text.len() - at < 11 {
-        return none(at);
-    }
-    let count = pair::any(t, text, at + 1);
+    let count = table.at(text, 1);
     if 255 < count {
-        return none(at);
+        return None;
     }
-    let stop = at + (11 + 2 * count as usize);
+    let stop = 11 + 2 * count as usize;
     if text.len() < stop {
-        return none(at);
+        return None;
     }
-    let next = end(text, stop);
-    if next == 0 {
-        return none(at);
+    let rest = end(&text[stop..])?;
+    if !is_checked(table, &text[1..stop]) {
+        return None;
     }
-    Scan {
-        sum: pairs(t, text, at + 1, stop),
-        stop,
-        next,
-    }
+    Some((
+        Line {
+            table,
+            text: &text[..stop],
+        },
+        rest,
+    ))
+}
+
+// The same where the first line is known to be good: nothing is tested.
+pub fn next<'a>(table: &'a Table, text: &'a [u8]) -> (Line<'a>, &'a [u8])
+    requires { (0 < length text.now) × Framed (first_of (lines_of text.now)) }
+    ensures { Begins text.now result.0.text.now result.1.now }
+{
+    let stop = 11 + 2 * table.at(text, 1) as usize;
+    let line = Line {
+        table,
+        text: &text[..stop],
+    };
+    (line, end(&text[stop..]).unwrap())
 }

@@ -1,6 +1,7 @@
--- The load for C: what it leaves, in every word and byte, through the definition of crate `hex`. Rule 11.20 of docs/HART.md.
-use Rattle.std.specs.Prelude.{List, [], ◌∷◌, ℕ}
-use Rattle.intel_hex.specs.Load.{HexCalled, load_hex_of}
+-- The load for C: what it leaves, in every word and byte, through the definition of crate `intel_hex`. Rule 11.20 of docs/HART.md.
+use Rattle.std.specs.Prelude.{List, [], ◌∷◌, ℕ, Option, Some, None, Result, Ok, Err}
+use Rattle.intel_hex.specs.Load.{number_of, line_of, load_hex_of}
+use Rattle.intel_hex.specs.declared.Refusal.{Refusal}
 
 -- what a load leaves: its result, the three words of its answer (line, 1 if a start address was given, the start address), and memory
 pub record LoadLeft : Type 0 where
@@ -8,13 +9,11 @@ pub record LoadLeft : Type 0 where
   pub answer : List ℕ
   pub memory : List ℕ
 
--- what a load of crate `hex` leaves, as words
-abbrev pub load_left_by : HexCalled → LoadLeft
-load_left_by c = record {
-  result = c.answer.refusal;
-  answer = c.answer.line ∷ c.answer.given ∷ c.answer.start ∷ [];
-  memory = c.memory;
-}
+-- an answer of crate `intel_hex`, as words
+abbrev pub load_left_by : Result (Option ℕ) Refusal → (mem : List ℕ) → LoadLeft
+load_left_by (Ok None) mem = record { result = 0; answer = 0 ∷ 0 ∷ 0 ∷ []; memory = mem }
+load_left_by (Ok (Some start)) mem = record { result = 0; answer = 0 ∷ 1 ∷ start ∷ []; memory = mem }
+load_left_by (Err e) mem = record { result = number_of e; answer = line_of e ∷ 0 ∷ 0 ∷ []; memory = mem }
 
 abbrev pub load_left : (text mem : List ℕ) → LoadLeft
-load_left text mem = load_left_by (load_hex_of text mem)
+load_left text mem = load_left_by (load_hex_of text mem).answer (load_hex_of text mem).memory

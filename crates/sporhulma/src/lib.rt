@@ -1,4 +1,4 @@
-// The boundary for C and Rust (include/sporhulma.h): the three calls of crate `run_machine` over words and bytes, and the load of crate `hex`, as a
+// The boundary for C and Rust (include/sporhulma.h): the three calls of crate `run_machine` over words and bytes, and the load of crate `intel_hex`, as a
 // static library.
 //
 // A hart is the words x and rest. Anything may be handed in; what a call leaves of every word and byte is stated in
@@ -115,7 +115,18 @@ pub extern "C" fn sporhulma_load_hex(mem: &mut [u8], text: &[u8], answer: &mut [
     ensures memory { mem.new ≡ (load_left text.now mem.old).memory }
     ensures answer { answer.new ≡ (load_left text.now mem.old).answer }
 {
-    let r = intel_hex::load(text, mem);
-    *answer = [r.line, r.given, r.start];
-    r.refusal
+    match intel_hex::load(text, mem) {
+        Ok(None) => {
+            *answer = [0, 0, 0];
+            0
+        }
+        Ok(Some(start)) => {
+            *answer = [0, 1, start];
+            0
+        }
+        Err(refusal) => {
+            *answer = [refusal.line(), 0, 0];
+            refusal.number()
+        }
+    }
 }

@@ -71,12 +71,13 @@ fn changed(mem: &[u8], got: &mut [u64; MOST]) -> usize
 fn loaded(text: &[u8], mem: &mut [u8]) -> Came
     ensures { result.count ≤ most }
 {
-    let a = intel_hex::load(text, &mut *mem);
+    let answer = match intel_hex::load(text, &mut *mem) {
+        Ok(None) => [0, 0, 0, 0],
+        Ok(Some(start)) => [0, 0, 1, start],
+        Err(refusal) => [refusal.number(), refusal.line(), 0, 0],
+    };
     let mut numbers = [0u64; MOST];
-    row::put(&mut numbers, 0, a.refusal);
-    row::put(&mut numbers, 1, a.line);
-    row::put(&mut numbers, 2, a.given);
-    row::put(&mut numbers, 3, a.start);
+    row::copy(&mut numbers, 0, &answer);
     let count = changed(&*mem, &mut numbers);
     Came { numbers, count }
 }

@@ -1,26 +1,26 @@
--- `intel_hex::pair::digit` meets its contract: a test an arm. Assumes nothing.
-use Prim.Native.Nat.{◌/◌, ◌%◌, ◌^◌}
+-- `intel_hex::pair::digit` meets its contract: a kind of digits an arm. Assumes nothing.
 use native.Mathlib.Omega.{arith}
-use borrow.Author.Tests.{eq-eqb, ne_eqb, lt-ltb, le-ltb}
-use Rattle.intel_hex.proofs.Digits.{formula, told}
+use Rattle.intel_hex.proofs.Digits.{decimal, upper_case, lower_case, other_byte}
 use Rattle.intel_hex.proofs.pair.digit.Goals as goal
 
-pub returns-then-k-gt63 : goal.returns-then-k-gt63
-unfolding formula
-returns-then-k-gt63 c = (rw (lt-ltb 63 _ c.if-k-gt63.true) at (told c.args.b (omega arith)), omega arith)
+pub returns-in-48-to-57 : goal.returns-in-48-to-57
+returns-in-48-to-57 c = (decimal c.args.b (omega arith) (omega arith), omega arith)
 
-pub returns-then-k-eq0 : goal.returns-then-k-eq0
-unfolding formula
-returns-then-k-eq0 c = (
-  rw (le-ltb 63 _ c.if-k-gt63.false, eq-eqb (0x007e_0000_007e_03ff / 2 ^ _ % 2) 0 c.if-k-eq0.true) at
-      (told c.args.b (omega arith)),
-  omega arith,
-)
+pub returns-in-65-to-70 : goal.returns-in-65-to-70
+returns-in-65-to-70 c = (upper_case c.args.b (omega arith) (omega arith), omega arith)
 
-pub returns : goal.returns
-unfolding formula
-returns c = (
-  rw (le-ltb 63 _ c.if-k-gt63.false, ne_eqb (0x007e_0000_007e_03ff / 2 ^ _ % 2) 0 c.if-k-eq0.false) at
-      (told c.args.b (omega arith)),
-  omega arith,
-)
+pub returns-in-97-to-102 : goal.returns-in-97-to-102
+returns-in-97-to-102 c = (lower_case c.args.b (omega arith) (omega arith), omega arith)
+
+pub returns-in_default : goal.returns-in_default
+returns-in_default c = (other_byte c.args.b (omega arith) (λ a b. omega arith) (λ a b. omega arith) (λ a b. omega arith), omega arith)
+
+pub returns-in_default-2 : goal.returns-in_default-2
+returns-in_default-2 c = (other_byte c.args.b (omega arith) (λ a b. omega arith) (λ a b. omega arith) (λ a b. omega arith), omega arith)
+
+pub returns-in_default-3 : goal.returns-in_default-3
+returns-in_default-3 c = (other_byte c.args.b (omega arith) (λ a b. omega arith) (λ a b. omega arith) (λ a b. omega arith), omega arith)
+
+pub returns-in_default-4 : goal.returns-in_default-4
+returns-in_default-4 c = (other_byte c.args.b (omega arith) (λ a b. omega arith) (λ a b. omega arith) (λ a b. omega arith), omega arith)
+

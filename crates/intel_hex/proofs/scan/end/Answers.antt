@@ -1,31 +1,23 @@
--- `intel_hex::scan::end` meets its contract: what stands at the place, case by case. Assumes nothing.
+-- `intel_hex::scan::end` meets its contract: what stands at the end of a line, case by case. Assumes nothing.
+use mathlib.Core.List.{[], ◌∷◌}
+use Prim.Native.Nat.{◌-◌}
+use lib.ListN.{length, take, drop}
 use native.Mathlib.Omega.{arith}
-use lib.ListN.{get_or-eq_default}
-use Rattle.intel_hex.proofs.Lines.{ends_on, ends_lf, ends_crlf, ends_text}
+use Rattle.std.proofs.lemmas.Slice.Eq.{strip_prefix_is}
+use Rattle.std.proofs.lemmas.Bool.Decides.{Decides-eqb}
+use Rattle.intel_hex.proofs.Lines.{ends_text, ends_lf, after_cr, on_end}
 use Rattle.intel_hex.proofs.scan.end.Goals as goal
 
-pub returns-then-text-at-eq10 : goal.returns-then-text-at-eq10
-returns-then-text-at-eq10 c = let s = c.args in ends_lf s.text.now s.at c.if-at-text.true c.if-text-at-eq10.true
+pub returns-in-empty : goal.returns-in-empty
+returns-in-empty c = ends_text c.args.text.now (omega arith)
 
-pub returns-then-text-at-eq10-2 : goal.returns-then-text-at-eq10-2
-returns-then-text-at-eq10-2 c =
-    let s = c.args in
-    ends_crlf s.text.now s.at c.if-at-text-2.true c.if-text-at-eq13.true c.if-text-at-eq10-2.true
+pub returns-in-10 : goal.returns-in-10
+returns-in-10 c = ends_lf c.args.text.now (omega arith) (omega arith)
 
-pub returns-else-text-at-eq10-2 : goal.returns-else-text-at-eq10-2
-returns-else-text-at-eq10-2 c =
-    let s = c.args in
-    ends_on s.text.now s.at (omega arith) c.if-text-at-eq10.false (λ _ e. c.if-text-at-eq10-2.false e)
+pub returns-in-13 : goal.returns-in-13
+returns-in-13 c =
+    after_cr c.args.text.now (omega arith) (omega arith) c.strip_prefix.result
+    (strip_prefix_is Decides-eqb (take (length c.args.text.now - 1) (drop 1 c.args.text.now)) (10 ∷ []) c.strip_prefix.result c.strip_prefix.ensures.cases)
 
-pub returns-else-at-text-2 : goal.returns-else-at-text-2
-returns-else-at-text-2 c =
-    let s = c.args in
-    ends_on s.text.now s.at (omega arith) c.if-text-at-eq10.false (λ _ e. omega (arith, get_or-eq_default s.text.now 0 c.if-at-text-2.false))
-
-pub returns-else-text-at-eq13 : goal.returns-else-text-at-eq13
-returns-else-text-at-eq13 c =
-    let s = c.args in
-    ends_on s.text.now s.at (omega arith) c.if-text-at-eq10.false (λ e _. c.if-text-at-eq13.false e)
-
-pub returns : goal.returns
-returns c = ends_text c.args.text.now c.args.at c.requires.0 c.if-at-text.false c.requires.1
+pub returns-in_default : goal.returns-in_default
+returns-in_default c = on_end c.args.text.now (omega arith) (λ e. omega arith) (λ e f. omega arith)

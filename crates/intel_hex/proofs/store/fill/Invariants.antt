@@ -1,14 +1,12 @@
 use mathlib.Core.Path.{◌≡◌}
-use Prim.Native.Nat.{◌≤◌, ◌-◌, ◌+◌}
-use lib.ListN.{length, take, drop}
+use Prim.Native.Nat.{◌+◌}
+use lib.ListN.{length, drop}
 use lib.Seq.{sets}
-use Rattle.intel_hex.specs.Line.{line_bytes_of}
+use Rattle.intel_hex.specs.Line.{data_of}
 use Rattle.intel_hex.proofs.store.fill.Given as goal
 
 abbrev pub invariant-loop-k : goal.invariant-loop-k
-invariant-loop-k l =
-    (l.k ≤ l.count) × (length l.mem ≡ length l.initial.mem)
-    × (sets l.mem (l.to + l.k) (drop l.k (take l.count (drop 4 (line_bytes_of l.line)))) ≡ sets l.initial.mem l.to (take l.count (drop 4 (line_bytes_of l.line))))
-
-abbrev pub decreases-loop-k : goal.decreases-loop-k
-decreases-loop-k l = l.count - l.k
+invariant-loop-k l = record {
+  size : length l.mem ≡ length l.initial.mem;
+  whole : sets l.mem (l.to + l.k) (drop l.k (data_of l.line.text.now)) ≡ sets l.initial.mem l.to (data_of l.line.text.now)
+}
