@@ -125,7 +125,8 @@ pub fn op_imm(f: Fields, imm: u64) -> Instruction
     Instruction::OpImm(operation, f.rd, f.rs1, imm)
 }
 
-// Their word forms.
+// Their word forms. These tables stay apart from those above, since they have other rows: the counts alone have the same keys, and a trait for their three
+// names would be longer than the rows.
 #[tactic(auto, unfolding(crate::specs::Base::count_word_of))]
 fn count_word(f: Fields) -> Instruction
     ensures { result ≡ count_word_of f }

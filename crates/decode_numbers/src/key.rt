@@ -4,6 +4,7 @@ ghost use Rattle.decode_numbers.specs.Key.{condition_key, operation_key, word_op
 
 use isa::{Condition, CsrOperation, CsrSource, Operation, Width, WordOperation};
 
+// What has a number of its own.
 pub trait Key {
     ghost key_of: { Self → ℕ };
 
