@@ -10,7 +10,7 @@ pub fn delegated(medeleg: u64, cause: u64) -> bool
     ensures { result ≡ delegated_of medeleg cause }
 {
     if cause < 64 {
-        return shift::right(medeleg, cause) % 2 == 1;
+        return shift::right::<64>(medeleg, cause) % 2 == 1;
     }
     false
 }

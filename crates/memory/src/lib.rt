@@ -42,9 +42,9 @@ fn signed(w: Width, v: u64) -> u64
     ensures { result ≡ sign_extended w v }
 {
     match w {
-        Width::Byte => sign::from_8(v),
-        Width::Half => sign::from_16(v),
-        Width::Word => sign::from_32(v),
+        Width::Byte => sign::extend::<8>(v),
+        Width::Half => sign::extend::<16>(v),
+        Width::Word => sign::extend::<32>(v),
         Width::Double => v,
     }
 }
