@@ -9,7 +9,7 @@
 pub mod size;
 
 // How many bytes an access moves: 1, 2, 4 or 8.
-#[derive(Clone, Copy)]
+#[derive(Clone, Copy, PartialEq, Eq)]
 pub enum Width {
     Byte,
     Half,
@@ -31,7 +31,7 @@ pub enum Access {
 }
 
 // What an access is for, as the rules of translation tell them apart.
-#[derive(Clone, Copy)]
+#[derive(Clone, Copy, PartialEq, Eq)]
 pub enum Kind {
     Fetch,
     Load,
@@ -42,7 +42,7 @@ pub enum Kind {
 }
 
 // The privilege modes.
-#[derive(Clone, Copy)]
+#[derive(Clone, Copy, PartialEq, Eq)]
 pub enum Mode {
     User,
     Supervisor,
@@ -57,7 +57,7 @@ pub struct Exception {
 }
 
 // When a branch is taken.
-#[derive(Clone, Copy)]
+#[derive(Clone, Copy, PartialEq, Eq)]
 pub enum Condition {
     Equal,
     NotEqual,
@@ -68,7 +68,7 @@ pub enum Condition {
 }
 
 // What OP and OP-IMM compute.
-#[derive(Clone, Copy)]
+#[derive(Clone, Copy, PartialEq, Eq)]
 pub enum Operation {
     Add,
     Sub,
@@ -101,7 +101,7 @@ pub enum Operation {
 }
 
 // What OP-32 and OP-IMM-32 compute.
-#[derive(Clone, Copy)]
+#[derive(Clone, Copy, PartialEq, Eq)]
 pub enum WordOperation {
     Addw,
     Subw,
@@ -119,7 +119,7 @@ pub enum WordOperation {
 }
 
 // What a CSR instruction does with the CSR.
-#[derive(Clone, Copy)]
+#[derive(Clone, Copy, PartialEq, Eq)]
 pub enum CsrOperation {
     Write,
     Set,
