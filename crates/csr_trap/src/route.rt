@@ -9,7 +9,7 @@ use word::shift;
 pub fn delegated(medeleg: u64, cause: u64) -> bool
     ensures { result ≡ delegated_of medeleg cause }
 {
-    cause < 64 && shift::right(medeleg, cause) % 2 == 1
+    cause < 64 && shift::right::<64>(medeleg, cause) % 2 == 1
 }
 
 // To S if below M and delegated, else M.

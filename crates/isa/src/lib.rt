@@ -11,7 +11,7 @@ pub mod size;
 mod mode_number;
 
 // How many bytes an access moves: 1, 2, 4 or 8.
-#[derive(Clone, Copy)]
+#[derive(Clone, Copy, PartialEq, Eq)]
 pub enum Width {
     Byte,
     Half,
@@ -33,7 +33,7 @@ pub enum Access {
 }
 
 // What an access is for, as the rules of translation tell them apart.
-#[derive(Clone, Copy)]
+#[derive(Clone, Copy, PartialEq, Eq)]
 pub enum Kind {
     Fetch,
     Load,
@@ -44,7 +44,7 @@ pub enum Kind {
 }
 
 // The privilege modes.
-#[derive(Clone, Copy)]
+#[derive(Clone, Copy, PartialEq, Eq)]
 pub enum Mode {
     User,
     Supervisor,
@@ -59,7 +59,7 @@ pub struct Exception {
 }
 
 // When a branch is taken.
-#[derive(Clone, Copy)]
+#[derive(Clone, Copy, PartialEq, Eq)]
 pub enum Condition {
     Equal,
     NotEqual,
@@ -70,7 +70,7 @@ pub enum Condition {
 }
 
 // What OP and OP-IMM compute.
-#[derive(Clone, Copy)]
+#[derive(Clone, Copy, PartialEq, Eq)]
 pub enum Operation {
     Add,
     Sub,
@@ -103,7 +103,7 @@ pub enum Operation {
 }
 
 // What OP-32 and OP-IMM-32 compute.
-#[derive(Clone, Copy)]
+#[derive(Clone, Copy, PartialEq, Eq)]
 pub enum WordOperation {
     Addw,
     Subw,
@@ -121,7 +121,7 @@ pub enum WordOperation {
 }
 
 // What a CSR instruction does with the CSR.
-#[derive(Clone, Copy)]
+#[derive(Clone, Copy, PartialEq, Eq)]
 pub enum CsrOperation {
     Write,
     Set,

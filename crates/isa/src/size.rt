@@ -19,10 +19,7 @@ pub fn width(a: Access) -> Width
     ensures { result ≡ width_of a }
 {
     match a {
-        Access::Load(w, _) => w,
-        Access::Store(w) => w,
-        Access::Push => Width::Double,
-        Access::Pop => Width::Double,
-        Access::Swap(w, _, _) => w,
+        Access::Load(w, _) | Access::Store(w) | Access::Swap(w, _, _) => w,
+        Access::Push | Access::Pop => Width::Double,
     }
 }

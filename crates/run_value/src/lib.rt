@@ -39,14 +39,14 @@ fn extension(f: Fields, a: u64, b: u64) -> Value
     ensures { Writes result.known (extension_of f) f a b result.value }
 {
     match f.funct7 as u32 * 8 + f.funct3 as u32 {
-        0b0000001_000 => told(multiply::product(a, b)),
+        0b0000001_000 => told(multiply::product::<64>(a, b)),
         0b0000001_001 => told(multiply::upper(true, true, a, b)),
         0b0000001_010 => told(multiply::upper(true, false, a, b)),
         0b0000001_011 => told(multiply::upper(false, false, a, b)),
-        0b0000001_100 => told(divide::quotient(true, a, b)),
-        0b0000001_101 => told(divide::quotient(false, a, b)),
-        0b0000001_110 => told(divide::remainder(true, a, b)),
-        0b0000001_111 => told(divide::remainder(false, a, b)),
+        0b0000001_100 => told(divide::quotient::<64>(true, a, b)),
+        0b0000001_101 => told(divide::quotient::<64>(false, a, b)),
+        0b0000001_110 => told(divide::remainder::<64>(true, a, b)),
+        0b0000001_111 => told(divide::remainder::<64>(false, a, b)),
         0b0000101_100 => told(extreme::smaller(true, a, b)),
         0b0000101_101 => told(extreme::smaller(false, a, b)),
         0b0000101_110 => told(extreme::larger(true, a, b)),
@@ -62,12 +62,12 @@ pub fn op(f: Fields, a: u64, b: u64) -> Value
     match f.funct7 as u32 * 8 + f.funct3 as u32 {
         0b0000000_000 => told(sum::sum(a, b)),
         0b0100000_000 => told(sum::difference(a, b)),
-        0b0000000_001 => told(shift::left(a, b)),
+        0b0000000_001 => told(shift::left::<64>(a, b)),
         0b0000000_010 => told(one(order::signed_less(a, b))),
         0b0000000_011 => told(one(order::unsigned_less(a, b))),
         0b0000000_100 => told(logic::xor(a, b)),
-        0b0000000_101 => told(shift::right(a, b)),
-        0b0100000_101 => told(shift::arithmetic(a, b)),
+        0b0000000_101 => told(shift::right::<64>(a, b)),
+        0b0100000_101 => told(shift::arithmetic::<64>(a, b)),
         0b0000000_110 => told(logic::or(a, b)),
         0b0000000_111 => told(logic::and(a, b)),
         _ => extension(f, a, b),
@@ -79,11 +79,11 @@ fn extension_32(f: Fields, a: u64, b: u64) -> Value
     ensures { Writes result.known (extension32_of f) f a b result.value }
 {
     match f.funct7 as u32 * 8 + f.funct3 as u32 {
-        0b0000001_000 => told(multiply::product_word(a, b)),
-        0b0000001_100 => told(divide::quotient_word(true, a, b)),
-        0b0000001_101 => told(divide::quotient_word(false, a, b)),
-        0b0000001_110 => told(divide::remainder_word(true, a, b)),
-        0b0000001_111 => told(divide::remainder_word(false, a, b)),
+        0b0000001_000 => told(multiply::product::<32>(a, b)),
+        0b0000001_100 => told(divide::quotient::<32>(true, a, b)),
+        0b0000001_101 => told(divide::quotient::<32>(false, a, b)),
+        0b0000001_110 => told(divide::remainder::<32>(true, a, b)),
+        0b0000001_111 => told(divide::remainder::<32>(false, a, b)),
         _ => none(),
     }
 }
@@ -95,9 +95,9 @@ pub fn op_32(f: Fields, a: u64, b: u64) -> Value
     match f.funct7 as u32 * 8 + f.funct3 as u32 {
         0b0000000_000 => told(sum::sum_word(a, b)),
         0b0100000_000 => told(sum::difference_word(a, b)),
-        0b0000000_001 => told(shift::left_word(a, b)),
-        0b0000000_101 => told(shift::right_word(a, b)),
-        0b0100000_101 => told(shift::arithmetic_word(a, b)),
+        0b0000000_001 => told(shift::left::<32>(a, b)),
+        0b0000000_101 => told(shift::right::<32>(a, b)),
+        0b0100000_101 => told(shift::arithmetic::<32>(a, b)),
         _ => extension_32(f, a, b),
     }
 }
@@ -107,9 +107,9 @@ fn counts(f: Fields, a: u64) -> Value
     ensures { (b : ℕ) → Writes result.known (count_of f) f a b result.value }
 {
     match f.funct7 as u32 * 256 + f.rs2 as u32 * 8 + f.funct3 as u32 {
-        0b0110000_00000_001 => told(count::leading(a)),
-        0b0110000_00001_001 => told(count::trailing(a)),
-        0b0110000_00010_001 => told(count::set(a)),
+        0b0110000_00000_001 => told(count::leading::<64>(a)),
+        0b0110000_00001_001 => told(count::trailing::<64>(a)),
+        0b0110000_00010_001 => told(count::set::<64>(a)),
         _ => none(),
     }
 }
@@ -120,9 +120,9 @@ fn shifts(f: Fields, a: u64) -> Value
 {
     let amount = (f.funct7 % 2) as u64 * 32 + f.rs2 as u64;
     match (f.funct7 / 2) as u32 * 8 + f.funct3 as u32 {
-        0b000000_001 => told(shift::left(a, amount)),
-        0b000000_101 => told(shift::right(a, amount)),
-        0b010000_101 => told(shift::arithmetic(a, amount)),
+        0b000000_001 => told(shift::left::<64>(a, amount)),
+        0b000000_101 => told(shift::right::<64>(a, amount)),
+        0b010000_101 => told(shift::arithmetic::<64>(a, amount)),
         _ => counts(f, a),
     }
 }
@@ -150,9 +150,9 @@ fn count_words(f: Fields, a: u64) -> Value
     ensures { (b : ℕ) → Writes result.known (count_word_of f) f a b result.value }
 {
     match f.funct7 as u32 * 256 + f.rs2 as u32 * 8 + f.funct3 as u32 {
-        0b0110000_00000_001 => told(count::leading_word(a)),
-        0b0110000_00001_001 => told(count::trailing_word(a)),
-        0b0110000_00010_001 => told(count::set_word(a)),
+        0b0110000_00000_001 => told(count::leading::<32>(a)),
+        0b0110000_00001_001 => told(count::trailing::<32>(a)),
+        0b0110000_00010_001 => told(count::set::<32>(a)),
         _ => none(),
     }
 }
@@ -163,9 +163,9 @@ fn word_shifts(f: Fields, a: u64) -> Value
 {
     let amount = f.rs2 as u64;
     match f.funct7 as u32 * 8 + f.funct3 as u32 {
-        0b0000000_001 => told(shift::left_word(a, amount)),
-        0b0000000_101 => told(shift::right_word(a, amount)),
-        0b0100000_101 => told(shift::arithmetic_word(a, amount)),
+        0b0000000_001 => told(shift::left::<32>(a, amount)),
+        0b0000000_101 => told(shift::right::<32>(a, amount)),
+        0b0100000_101 => told(shift::arithmetic::<32>(a, amount)),
         _ => count_words(f, a),
     }
 }

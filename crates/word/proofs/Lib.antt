@@ -7,6 +7,8 @@ pub mod Parts
 pub mod Halves
 pub mod Extension
 pub mod Filling
+pub mod Machine
+pub mod Sizes
 pub mod Orders
 pub mod Sums
 pub mod Below

@@ -4,5 +4,6 @@ pub mod Sign
 pub mod Immediate
 pub mod Sum
 pub mod Order
+pub mod Size
 pub mod Shift
 pub mod Row

@@ -5,16 +5,13 @@ ghost use Rattle.word.specs.Choice.{pick};
 pub fn both(a: bool, b: bool) -> bool
     ensures { result ≡ (a && b) }
 {
-    if a { b } else { false }
+    a && b
 }
 
 pub fn either(a: bool, b: bool) -> bool
     ensures { result ≡ (a || b) }
 {
-    if a {
-        return true;
-    }
-    b
+    a || b
 }
 
 // A field's new value: what is written where the field can hold it, else the old one. Both are below `below`.

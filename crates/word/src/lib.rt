@@ -12,9 +12,9 @@ pub mod immediate;
 pub mod logic;
 // Signed and unsigned order.
 pub mod order;
-// The three shifts and their word forms.
+// The three shifts, of 64 and of 32 bits.
 pub mod shift;
-// Sign extension.
+// The low bits of a number, with their sign or without.
 pub mod sign;
 // Sums and differences that wrap, and their word forms.
 pub mod sum;

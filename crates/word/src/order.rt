@@ -2,8 +2,6 @@
 ghost use Rattle.std.specs.Prelude.{◌≡◌, nat_lt};
 ghost use Rattle.word.specs.Order.{signed_less_of};
 
-use std::num::wrapping_add_u64;
-
 pub fn unsigned_less(a: u64, b: u64) -> bool
     ensures { result ≡ nat_lt a b }
 {
@@ -13,7 +11,5 @@ pub fn unsigned_less(a: u64, b: u64) -> bool
 pub fn signed_less(a: u64, b: u64) -> bool
     ensures { result ≡ signed_less_of a b }
 {
-    let x = wrapping_add_u64(a, 0x8000_0000_0000_0000);
-    let y = wrapping_add_u64(b, 0x8000_0000_0000_0000);
-    x < y
+    a.cast_signed() < b.cast_signed()
 }

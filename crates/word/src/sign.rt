@@ -1,23 +1,21 @@
-// Sign extension to 64 bits of the low 8, 16 or 32 bits of a number: one definition over the number of bits.
-ghost use Rattle.std.specs.Prelude.{◌≡◌};
+// The low bits of a number, with their sign or without one, as 64 bits.
+ghost use Rattle.std.specs.Prelude.{◌≡◌, ◌%◌, ◌^◌, ◌<◌, ◌≤◌};
 ghost use Rattle.word.specs.Sign.{sign_extend_of};
 
-use std::num::wrapping_sub_u64;
-
-pub fn from_8(v: u64) -> u64
-    ensures { result ≡ sign_extend_of 8 v }
+// With zeros above them: they go to the top of the word, and come back.
+pub fn low<const BITS: u64>(v: u64) -> u64
+    requires { (0 < BITS) × (BITS ≤ 64) }
+    ensures { result ≡ v % 2 ^ BITS }
 {
-    wrapping_sub_u64((v % 256 + 128) % 256, 128)
+    let above = 64 - BITS;
+    v << above >> above
 }
 
-pub fn from_16(v: u64) -> u64
-    ensures { result ≡ sign_extend_of 16 v }
+// With copies of the topmost above them, by the shift that keeps a sign.
+pub fn extend<const BITS: u64>(v: u64) -> u64
+    requires { (0 < BITS) × (BITS ≤ 64) }
+    ensures { result ≡ sign_extend_of BITS v }
 {
-    wrapping_sub_u64((v % 65536 + 32768) % 65536, 32768)
-}
-
-pub fn from_32(v: u64) -> u64
-    ensures { result ≡ sign_extend_of 32 v }
-{
-    wrapping_sub_u64((v % 4294967296 + 2147483648) % 4294967296, 2147483648)
+    let above = 64 - BITS;
+    ((v << above).cast_signed() >> above).cast_unsigned()
 }

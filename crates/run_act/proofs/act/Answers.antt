@@ -224,67 +224,67 @@ returns-in-Subw c =
 pub returns-in-Sllw : goal.returns-in-Sllw
 returns-in-Sllw c =
     let all = word_row ((goal.at.returns-in-Sllw c).After-sum-b) word.Sllw _ _ _ c.computed-in-Sllw.ensures
-    (ap shape_of c.in-Sllw.is) c.left_word.ensures in
+    (ap shape_of c.in-Sllw.is) c.left-in-Sllw.ensures in
     record { does = all.0; stored = all.1.0; pages = all.1.1 }
 
 pub returns-in-Srlw : goal.returns-in-Srlw
 returns-in-Srlw c =
     let all = word_row ((goal.at.returns-in-Srlw c).After-sum-b) word.Srlw _ _ _ c.computed-in-Srlw.ensures
-    (ap shape_of c.in-Srlw.is) c.right_word.ensures in
+    (ap shape_of c.in-Srlw.is) c.right-in-Srlw.ensures in
     record { does = all.0; stored = all.1.0; pages = all.1.1 }
 
 pub returns-in-Sraw : goal.returns-in-Sraw
 returns-in-Sraw c =
     let all = word_row ((goal.at.returns-in-Sraw c).After-sum-b) word.Sraw _ _ _ c.computed-in-Sraw.ensures
-    (ap shape_of c.in-Sraw.is) c.arithmetic_word.ensures in
+    (ap shape_of c.in-Sraw.is) c.arithmetic-in-Sraw.ensures in
     record { does = all.0; stored = all.1.0; pages = all.1.1 }
 
 pub returns-in-Mulw : goal.returns-in-Mulw
 returns-in-Mulw c =
     let all = word_row ((goal.at.returns-in-Mulw c).After-sum-b) word.Mulw _ _ _ c.computed-in-Mulw.ensures
-    (ap shape_of c.in-Mulw.is) c.product_word.ensures in
+    (ap shape_of c.in-Mulw.is) c.product-in-Mulw.ensures in
     record { does = all.0; stored = all.1.0; pages = all.1.1 }
 
 pub returns-in-Divw : goal.returns-in-Divw
 returns-in-Divw c =
     let all = word_row ((goal.at.returns-in-Divw c).After-sum-b) word.Divw _ _ _ c.computed-in-Divw.ensures
-    (ap shape_of c.in-Divw.is) c.quotient_word.ensures in
+    (ap shape_of c.in-Divw.is) c.quotient-in-Divw.ensures in
     record { does = all.0; stored = all.1.0; pages = all.1.1 }
 
 pub returns-in-Divuw : goal.returns-in-Divuw
 returns-in-Divuw c =
     let all = word_row ((goal.at.returns-in-Divuw c).After-sum-b) word.Divuw _ _ _ c.computed-in-Divuw.ensures
-    (ap shape_of c.in-Divuw.is) c.quotient_word-in-Divuw.ensures in
+    (ap shape_of c.in-Divuw.is) c.quotient-in-Divuw.ensures in
     record { does = all.0; stored = all.1.0; pages = all.1.1 }
 
 pub returns-in-Remw : goal.returns-in-Remw
 returns-in-Remw c =
     let all = word_row ((goal.at.returns-in-Remw c).After-sum-b) word.Remw _ _ _ c.computed-in-Remw.ensures
-    (ap shape_of c.in-Remw.is) c.remainder_word.ensures in
+    (ap shape_of c.in-Remw.is) c.remainder-in-Remw.ensures in
     record { does = all.0; stored = all.1.0; pages = all.1.1 }
 
 pub returns-in-Remuw : goal.returns-in-Remuw
 returns-in-Remuw c =
     let all = word_row ((goal.at.returns-in-Remuw c).After-sum-b) word.Remuw _ _ _ c.computed-in-Remuw.ensures
-    (ap shape_of c.in-Remuw.is) c.remainder_word-in-Remuw.ensures in
+    (ap shape_of c.in-Remuw.is) c.remainder-in-Remuw.ensures in
     record { does = all.0; stored = all.1.0; pages = all.1.1 }
 
 pub returns-in-Clzw : goal.returns-in-Clzw
 returns-in-Clzw c =
     let all = word_row ((goal.at.returns-in-Clzw c).After-sum-b) word.Clzw _ _ _ c.computed-in-Clzw.ensures
-    (ap shape_of c.in-Clzw.is) c.leading_word.ensures in
+    (ap shape_of c.in-Clzw.is) c.leading-in-Clzw.ensures in
     record { does = all.0; stored = all.1.0; pages = all.1.1 }
 
 pub returns-in-Ctzw : goal.returns-in-Ctzw
 returns-in-Ctzw c =
     let all = word_row ((goal.at.returns-in-Ctzw c).After-sum-b) word.Ctzw _ _ _ c.computed-in-Ctzw.ensures
-    (ap shape_of c.in-Ctzw.is) c.trailing_word.ensures in
+    (ap shape_of c.in-Ctzw.is) c.trailing-in-Ctzw.ensures in
     record { does = all.0; stored = all.1.0; pages = all.1.1 }
 
 pub returns-in-Cpopw : goal.returns-in-Cpopw
 returns-in-Cpopw c =
     let all = word_row ((goal.at.returns-in-Cpopw c).After-sum-b) word.Cpopw _ _ _ c.computed-in-Cpopw.ensures
-    (ap shape_of c.in-Cpopw.is) c.set_word.ensures in
+    (ap shape_of c.in-Cpopw.is) c.set-in-Cpopw.ensures in
     record { does = all.0; stored = all.1.0; pages = all.1.1 }
 
 pub returns-in-Jal : goal.returns-in-Jal

@@ -16,16 +16,16 @@ returns-in-256 c = row_told _ _ c.told-in-256.ensures _ _ _ _
 
 pub returns-in-1 : goal.returns-in-1
 unfolding op32_of execute_of
-returns-in-1 c = row_told _ _ c.told-in-1.ensures _ _ _ _ (λ _ _ _ _ _ _ _ p q. rw (c.in-1.is, p, q, c.left_word.ensures))
+returns-in-1 c = row_told _ _ c.told-in-1.ensures _ _ _ _ (λ _ _ _ _ _ _ _ p q. rw (c.in-1.is, p, q, c.left.ensures))
 
 pub returns-in-5 : goal.returns-in-5
 unfolding op32_of execute_of
-returns-in-5 c = row_told _ _ c.told-in-5.ensures _ _ _ _ (λ _ _ _ _ _ _ _ p q. rw (c.in-5.is, p, q, c.right_word.ensures))
+returns-in-5 c = row_told _ _ c.told-in-5.ensures _ _ _ _ (λ _ _ _ _ _ _ _ p q. rw (c.in-5.is, p, q, c.right.ensures))
 
 pub returns-in-261 : goal.returns-in-261
 unfolding op32_of execute_of
 returns-in-261 c = row_told _ _ c.told-in-261.ensures _ _ _ _
-    (λ _ _ _ _ _ _ _ p q. rw (c.in-261.is, p, q, c.arithmetic_word.ensures))
+    (λ _ _ _ _ _ _ _ p q. rw (c.in-261.is, p, q, c.arithmetic.ensures))
 
 pub returns-in_default : goal.returns-in_default
 unfolding op32_of

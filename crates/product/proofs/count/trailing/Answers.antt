@@ -1,7 +1,12 @@
--- `product::count::trailing` meets its contract: the library's count of trailing zeros. Assumes nothing.
-use native.Mathlib.Nat.{mod-eq_of_lt}
-use Rattle.product.proofs.Digits.{trailing_same}
+-- `product::count::trailing` meets its contract: of 0 the count is that of all low bits. Assumes nothing.
+use Rattle.std.proofs.Common.{◌≡◌, ◌∙◌, ap, min}
+use lib.Count.{count_trailing_zeros}
+use Rattle.word.proofs.Sizes.{size_range}
+use Rattle.product.proofs.Digits.{trailing_above}
 use Rattle.product.proofs.count.trailing.Goals as goal
 
 pub returns : goal.returns
-returns c = rw (mod-eq_of_lt c.ranges.a.fits) at (trailing_same 64 c.args.a)
+returns g c =
+    let k = g.row.BITS in
+    c.min.ensures ∙ ap (λ n. min n k) (c.from.ensures ∙ ap (count_trailing_zeros 64) c.low.ensures)
+    ∙ trailing_above k c.args.a (size_range k c.requires).1
