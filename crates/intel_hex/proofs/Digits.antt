@@ -31,7 +31,7 @@ below (suc m) f h n l =
 -- a test of each byte, and what it tells of digits of each kind and of any other byte
 formula : ℕ → ℕ
 formula n =
-    pick (leb 48 n && leb n 57) (n - 48) (pick (leb 65 n && leb n 70) (n - 55) (pick (leb 97 n && leb n 102) (n - 87) 0x10_0000))
+    pick (leb 48 n && leb n 57) (n - 48) (pick (leb 65 n && leb n 70) (n - 65 + 10) (pick (leb 97 n && leb n 102) (n - 97 + 10) 0x10_0000))
 
 told : (n : ℕ) → n < 256 → formula n ≡ weight_of n
 unfolding all_below formula weight_of is_digit digit_of
@@ -45,11 +45,11 @@ module _ (n : ℕ) where
   unfolding formula
   decimal h l = rw (le-leb 48 n h, le-leb n 57 l) at (told n (omega arith))
 
-  pub upper_case : 65 ≤ n → n ≤ 70 → n - 55 ≡ weight_of n
+  pub upper_case : 65 ≤ n → n ≤ 70 → n - 65 + 10 ≡ weight_of n
   unfolding formula
   upper_case h l = rw (out n 48 57 (λ a b. omega arith), le-leb 65 n h, le-leb n 70 l) at (told n (omega arith))
 
-  pub lower_case : 97 ≤ n → n ≤ 102 → n - 87 ≡ weight_of n
+  pub lower_case : 97 ≤ n → n ≤ 102 → n - 97 + 10 ≡ weight_of n
   unfolding formula
   lower_case h l = rw (out n 48 57 (λ a b. omega arith), out n 65 70 (λ a b. omega arith), le-leb 97 n h, le-leb n 102 l) at (told n (omega arith))
 
@@ -77,9 +77,6 @@ no_end b h = ((λ e. let k = rw e at h in omega arith), (λ e. let k = rw e at h
 module _ (x y b : ℕ) (e : b ≡ weight_of x * 16 + weight_of y) where
   pub pair_good : b ≤ 255 → (digit_of x < 16) × (digit_of y < 16) × (b ≡ digit_of x * 16 + digit_of y)
   pair_good h = range x (λ p f. range y (λ q g. (p, q, omega arith)) (λ q g. absurd (omega arith))) (λ p f. absurd (omega arith))
-
-  pub pair_bad : (r : Bool) → 255 < b → is_digit x && (is_digit y && r) ≡ false
-  pair_bad r h = range x (λ p f. range y (λ q g. absurd (omega arith)) (λ q g. rw q (by_test (is_digit x) (λ t. rw t) (λ t. rw t)))) (λ p f. rw p)
 
   -- then it is more than all pairs of a line add up to
   pub pair_large : 255 < b → 0x10_0000 ≤ b

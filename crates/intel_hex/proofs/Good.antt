@@ -44,32 +44,28 @@ module _ (l : List ℕ) where
   good_by f len upper = rw (f.starts, f.digits, counted_is f.digits f.long, f.sum) refl
 
   -- a well-formed line
-  pub formed : well_formed l ≡ true
-      → (hex_pairs (drop 1 l) ≡ true) × (length l ≡ 2 * record_count_of l + 11) × (shaped (record_type_of l) (record_count_of l) (offset_of l) ≡ true)
+  pub formed : well_formed l ≡ true → (length l ≡ 2 * record_count_of l + 11) × (shaped (record_type_of l) (record_count_of l) (offset_of l) ≡ true)
   unfolding well_formed
   formed w =
       let s = shaped (record_type_of l) (record_count_of l) (offset_of l) in
       let h = (both (colon l) (hex_pairs (drop 1 l) && (counted l && s)) w).1 in
       let (x, n) = both (hex_pairs (drop 1 l)) (counted l && s) h in
       let (m, f) = both (counted l) s n in
-      (x, counted_long x m, f)
-
-  pub long : well_formed l ≡ true → (hex_pairs (drop 1 l) ≡ true) × (11 ≤ length l)
-  long w = let (x, n, _) = formed w in (x, omega arith)
+      (counted_long x m, f)
 
   -- the data of types 04 and 05 are in it
   room : (k count : ℕ) → record_type_of l ≡ k → shaped k (record_count_of l) (offset_of l) ≡ eqb (record_count_of l) count && eqb (offset_of l) 0 → well_formed l ≡ true
-      → (hex_pairs (drop 1 l) ≡ true) × (length l ≡ 2 * count + 11)
+      → length l ≡ 2 * count + 11
   room k count e f w =
-      let (x, n, s) = formed w in
+      let (n, s) = formed w in
       let c = eqb-true (record_count_of l) count (both (eqb (record_count_of l) count) (eqb (offset_of l) 0) (sym f ∙ rw e at s)).0 in
-      (x, omega arith)
+      omega arith
 
-  pub room_4 : well_formed l ≡ true → record_type_of l ≡ 4 → (hex_pairs (drop 1 l) ≡ true) × (length l ≡ 15)
+  pub room_4 : well_formed l ≡ true → record_type_of l ≡ 4 → length l ≡ 15
   unfolding shaped
   room_4 w e = room 4 2 e refl w
 
-  pub room_5 : well_formed l ≡ true → record_type_of l ≡ 5 → (hex_pairs (drop 1 l) ≡ true) × (length l ≡ 19)
+  pub room_5 : well_formed l ≡ true → record_type_of l ≡ 5 → length l ≡ 19
   unfolding shaped
   room_5 w e = room 5 4 e refl w
 

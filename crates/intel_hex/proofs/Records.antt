@@ -31,7 +31,6 @@ told_at n =
 pub told : (n : ℕ) (k : Option RecordType) → k ≡ record_type_at n → Tells k n
 told n k e = rw e (told_at n)
 
-
 -- the type that is asked for
 at_number : (k : RecordType) → record_type_at (type_number k) ≡ Some k
 unfolding record_type_at
@@ -53,8 +52,11 @@ same_type E one self n k None e =
 same_type E one self n k (Some x) e =
     by_test (E x k)
     (λ h. rw (h, eq-eqb n (type_number k) (number_told n k (told n (Some k) (rw (one x k h) at e)))))
-    (λ h. rw (h, ne_eqb n (type_number k) (λ z.
-    let q : ◌≡◌ {A = Option RecordType} (Some x) (Some k) = e ∙ ap record_type_at z ∙ at_number k in
-    let y : x ≡ k = cc in
-    let w = rw y at h in
-    let v : false ≡ true = sym w ∙ self k in cc)))
+    (λ h. rw (
+      h,
+      ne_eqb n (type_number k) (λ z.
+          let q : ◌≡◌ {A = Option RecordType} (Some x) (Some k) = e ∙ ap record_type_at z ∙ at_number k in
+          let y : x ≡ k = cc in
+          let w = rw y at h in
+          let v : false ≡ true = sym w ∙ self k in cc),
+    ))

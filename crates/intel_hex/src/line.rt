@@ -35,7 +35,7 @@ fn is_inside(len: usize, count: u8, address: u64) -> bool
     requires { address < 2 ^ 32 }
     ensures { result ≡ inside len 0 count address }
 {
-    count == 0 || 0x8000_0000 <= address && address + count as u64 - 0x8000_0000 <= len as u64
+    count == 0 || (0x8000_0000 <= address && address + count as u64 - 0x8000_0000 <= len as u64)
 }
 
 // A line that is a colon and hex pairs, as many as its count says, which add up to 0 modulo 256.

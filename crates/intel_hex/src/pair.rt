@@ -7,11 +7,10 @@ ghost use Rattle.intel_hex.specs.Inner.{weight_of, Filled};
 fn digit(b: u8) -> u64
     ensures { (result ≡ weight_of b) × (result ≤ 0x10_0000) }
 {
-    let n = b as u64;
     match b {
-        b'0'..=b'9' => n - 48,
-        b'A'..=b'F' => n - 55,
-        b'a'..=b'f' => n - 87,
+        b'0'..=b'9' => (b - b'0') as u64,
+        b'A'..=b'F' => (b - b'A') as u64 + 10,
+        b'a'..=b'f' => (b - b'a') as u64 + 10,
         _ => 0x10_0000,
     }
 }

@@ -115,18 +115,11 @@ pub extern "C" fn sporhulma_load_hex(mem: &mut [u8], text: &[u8], answer: &mut [
     ensures memory { mem.new ≡ (load_left text.now mem.old).memory }
     ensures answer { answer.new ≡ (load_left text.now mem.old).answer }
 {
-    match intel_hex::load(text, mem) {
-        Ok(None) => {
-            *answer = [0, 0, 0];
-            0
-        }
-        Ok(Some(start)) => {
-            *answer = [0, 1, start];
-            0
-        }
-        Err(refusal) => {
-            *answer = [refusal.line(), 0, 0];
-            refusal.number()
-        }
-    }
+    let (result, words) = match intel_hex::load(text, mem) {
+        Ok(None) => (0, [0, 0, 0]),
+        Ok(Some(start)) => (0, [0, 1, start]),
+        Err(refusal) => (refusal.number(), [refusal.line(), 0, 0]),
+    };
+    *answer = words;
+    result
 }

@@ -23,4 +23,3 @@ returns-in_default-3 c = (other_byte c.args.b (omega arith) (λ a b. omega arith
 
 pub returns-in_default-4 : goal.returns-in_default-4
 returns-in_default-4 c = (other_byte c.args.b (omega arith) (λ a b. omega arith) (λ a b. omega arith) (λ a b. omega arith), omega arith)
-

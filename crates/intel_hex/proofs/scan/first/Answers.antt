@@ -14,7 +14,7 @@ pub returns-then-text-ne58 : goal.returns-then-text-ne58
 returns-then-text-ne58 c =
     let u = c.args.text.now in
     elim c.then-text-ne58.branch [
-      then-text-ne58-via-then-text-ne58 w ↦ not_good u (λ f. w.if-text-ne58.true (colon_is u f))
+      | then-text-ne58-via-then-text-ne58 w ↦ not_good u (λ f. w.if-text-ne58.true (colon_is u f))
       | then-text-ne58-via-else-text-ne58+then-text-lt11 w ↦ not_good u (λ f. let n = within u f in let m = f.long in absurd (omega arith))
     ]
 

@@ -8,5 +8,5 @@ abbrev pub invariant-loop-high : goal.invariant-loop-high
 invariant-loop-high l = record {
   few : length l.pairs ≤ 260;
   small : l.sum ≤ 0x110_0000 * l.high-index;
-  whole : l.sum + pair_weights (drop l.high-index l.pairs) ≡ weights l.digits
+  whole : l.sum + pair_weights (drop l.high-index l.pairs) ≡ weights l.digits;
 }

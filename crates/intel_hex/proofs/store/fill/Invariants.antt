@@ -8,5 +8,5 @@ use Rattle.intel_hex.proofs.store.fill.Given as goal
 abbrev pub invariant-loop-k : goal.invariant-loop-k
 invariant-loop-k l = record {
   size : length l.mem ≡ length l.initial.mem;
-  whole : sets l.mem (l.to + l.k) (drop l.k (data_of l.line.text.now)) ≡ sets l.initial.mem l.to (data_of l.line.text.now)
+  whole : sets l.mem (l.to + l.k) (drop l.k (data_of l.line.text.now)) ≡ sets l.initial.mem l.to (data_of l.line.text.now);
 }

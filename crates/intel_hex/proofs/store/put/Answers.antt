@@ -35,6 +35,6 @@ pub returns-else-count-gt0 : goal.returns-else-count-gt0
 returns-else-count-gt0 c =
     let l = c.args.line.now.text.now in
     elim c.else-count-gt0.branch [
-      else-count-gt0-via-then-count-gt0+else-is w ↦ placed_other c.args.upper l c.args.mem.now (eqb-false (record_type_of l) 0 (sym w.is.ensures ∙ w.if-is.false))
+      | else-count-gt0-via-then-count-gt0+else-is w ↦ placed_other c.args.upper l c.args.mem.now (eqb-false (record_type_of l) 0 (sym w.is.ensures ∙ w.if-is.false))
       | else-count-gt0-via-else-count-gt0 w ↦ placed_none c.args.upper l c.args.mem.now (omega (arith, c.count.ensures, w.if-count-gt0.false))
     ]

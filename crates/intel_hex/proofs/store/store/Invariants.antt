@@ -10,7 +10,7 @@ abbrev pub invariant-loop-rest : goal.invariant-loop-rest
 invariant-loop-rest l = record {
   size : length l.mem ≡ length l.initial.mem;
   good : all_good (length l.initial.mem) l.upper (lines_of l.rest) ≡ true;
-  whole : stored 0 l.initial.mem (lines_of l.text) ≡ stored l.upper l.mem (lines_of l.rest)
+  whole : stored 0 l.initial.mem (lines_of l.text) ≡ stored l.upper l.mem (lines_of l.rest);
 }
 
 abbrev pub decreases-loop-rest : goal.decreases-loop-rest

@@ -7,12 +7,12 @@ use Rattle.intel_hex.proofs.line.Line.start_after.Goals as goal
 
 pub half-requires : goal.half-requires
 half-requires c =
-    let (_, n) = room_5 c.args.self.now.text.now c.requires (eqb-true _ 5 (sym c.is.ensures ∙ c.if-is.true)) in
+    let n = room_5 c.args.self.now.text.now c.requires (eqb-true _ 5 (sym c.is.ensures ∙ c.if-is.true)) in
     omega arith
 
 pub half-requires-then-is : goal.half-requires-then-is
 half-requires-then-is c =
-    let (_, n) = room_5 c.args.self.now.text.now c.requires (eqb-true _ 5 (sym c.is.ensures ∙ c.if-is.true)) in
+    let n = room_5 c.args.self.now.text.now c.requires (eqb-true _ 5 (sym c.is.ensures ∙ c.if-is.true)) in
     omega arith
 
 pub returns-then-is : goal.returns-then-is

@@ -7,12 +7,12 @@ use Rattle.intel_hex.proofs.line.Line.upper_after.Goals as goal
 
 pub half-requires : goal.half-requires
 half-requires c =
-    let (_, n) = room_4 c.args.self.now.text.now c.requires (eqb-true _ 4 (sym c.is.ensures ∙ c.if-is.true)) in
+    let n = room_4 c.args.self.now.text.now c.requires (eqb-true _ 4 (sym c.is.ensures ∙ c.if-is.true)) in
     omega arith
 
 pub returns-then-is : goal.returns-then-is
 returns-then-is c =
-    rw c.half.ensures (upper_told c.args.self.now.text.now c.args.upper (eqb-true _ 4 (sym c.is.ensures ∙ c.if-is.true)))
+    c.half.ensures ∙ upper_told c.args.self.now.text.now c.args.upper (eqb-true _ 4 (sym c.is.ensures ∙ c.if-is.true))
 
 pub returns : goal.returns
 returns c = upper_kept c.args.self.now.text.now c.args.upper (eqb-false _ 4 (sym c.is.ensures ∙ c.if-is.false))
