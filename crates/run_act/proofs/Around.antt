@@ -1,8 +1,9 @@
 -- An access at its place: it lies in memory, and a store leaves every byte but those of the eight around it.
 -- Assumes nothing.
+use Rattle.std.specs.Prelude.{Some}
 use mathlib.Core.List.{List}
 use mathlib.Core.Path.{◌≡◌}
-use Prim.Native.Nat.{ℕ, ◌+◌, ◌-◌, ◌/◌, ◌%◌, ◌≤◌}
+use Prim.Native.Nat.{ℕ, ◌+◌, ◌-◌, ◌/◌, ◌%◌, ◌<◌, ◌≤◌}
 use native.Mathlib.Omega.{arith}
 use lib.ListN.{length}
 use Rattle.word.proofs.Either.{either}
@@ -28,13 +29,13 @@ aligned Word t at h o = omega arith
 aligned Double t at h o = omega arith
 
 -- an aligned access does not leave its eight bytes
-behind : (n : Width) (at i : ℕ) → at % size_of n ≡ 0 → (i / 8 ≡ (at + 1 - 1) / 8 → ⊥) → at ≤ i → at + size_of n ≤ i
+behind : (n : Width) (at i : ℕ) → at % size_of n ≡ 0 → (i / 8 ≡ at / 8 → ⊥) → at ≤ i → at + size_of n ≤ i
 behind Byte at i h d l = omega arith
 behind Half at i h d l = omega arith
 behind Word at i h d l = omega arith
 behind Double at i h d l = omega arith
 
-first_fits : (n : Width) (at len : ℕ) → at + size_of n ≤ len → at + 1 ≤ len
+first_fits : (n : Width) (at len : ℕ) → at + size_of n ≤ len → at < len
 first_fits Byte at len h = omega arith
 first_fits Half at len h = omega arith
 first_fits Word at len h = omega arith
@@ -51,16 +52,15 @@ module _ (c : Control) (k : Kind) (n : Width) (a : ℕ) (map : List ℕ) (len at
       (place_aligned c k n a map len (record { 0 = base + at }) found)
       (place_offset c k n a map len (record { 0 = base + at }) found)
 
-  stored : (m : List ℕ) (v : ℕ) → length m ≡ len → Touched (at + 1) m (store_of m at (size_of n) v)
+  stored : (m : List ℕ) (v : ℕ) → length m ≡ len → Touched (Some at) m (store_of m at (size_of n) v)
   stored m v e =
       let f : at + size_of n ≤ length m = rw e fits in (
-        (λ z. absurd (omega arith)),
         first_fits n at (length m) f,
         length_store m at (size_of n) v f,
         (λ i d. either i at (λ l. byte_before m at (size_of n) v f i l) (λ l. byte_after_lem m at (size_of n) v f i (behind n at i even d l))),
       )
 
-  pub touched : (m m' : List ℕ) (v : ℕ) → length m ≡ len → m' ≡ store_of m at (size_of n) v → Touched (at + 1) m m'
+  pub touched : (m m' : List ℕ) (v : ℕ) → length m ≡ len → m' ≡ store_of m at (size_of n) v → Touched (Some at) m m'
   touched m m' v e h = rw h (stored m v e)
 
 -- what stands at a place's index, and what is stored there

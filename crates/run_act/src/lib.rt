@@ -4,7 +4,7 @@
 // One match for all: a second one would be a second jump for each instruction (docs/SPEED.md).
 #![tactic(auto)]
 
-ghost use Rattle.std.specs.Prelude.{Bool, true, false, List, ◌≡◌, ℕ, ◌+◌, ◌^◌, ◌<◌, ◌≤◌, length, get_or};
+ghost use Rattle.std.specs.Prelude.{Bool, Some, None, List, ◌≡◌, ℕ, ◌+◌, ◌^◌, ◌<◌, ◌≤◌, length, get_or};
 ghost use Rattle.word.specs.Sum.{sum_of};
 ghost use Rattle.isa.specs.declared.Access.TheVariants as access;
 ghost use Rattle.isa.specs.declared.Kind.TheVariants as kind;
@@ -16,54 +16,41 @@ ghost use Rattle.step_effect.specs.Register.{put_of};
 ghost use Rattle.step_transfer.specs.Access.{at_of};
 ghost use Rattle.step_meaning.specs.Instruction.{next_of};
 ghost use Rattle.csr_words.specs.Words.{◌of◌, SSP};
-ghost use Rattle.run_done.specs.Moves.{Does};
 ghost use Rattle.run_pages.specs.Pages.{Remembers};
 ghost use Rattle.run_form.specs.Form.{does_of};
-ghost use Rattle.run_act.specs.Act.{Touched};
+ghost use Rattle.run_act.specs.Act.{Acts};
 
 use address::control::Control;
 use csr_words::{COUNT, SSP};
 use isa::{Kind, Width};
 use product::{count, divide, extreme, multiply};
 use run_form::Op;
-use run_pages::COUNT as PAGES;
+use run_pages::{COUNT as PAGES, Page};
 use step_effect::compute::one;
 use step_effect::jump;
 use word::{logic, order, shift, sum};
 
-// Whether a form was carried out, and then pc after it; and where it stored, if it did: the index of the first byte, and 1 more.
+// Where pc goes on after a form that was carried out, and the index of the first byte that it stored, if it did.
 #[derive(Clone, Copy)]
 pub struct Acted {
-    pub done: bool,
     pub pc: u64,
-    pub stored: usize,
-}
-
-fn undone(pc: u64) -> Acted
-    ensures { result ≡ record { done = false; pc = pc; stored = 0 } }
-{
-    Acted {
-        done: false,
-        pc,
-        stored: 0,
-    }
+    pub stored: Option<usize>,
 }
 
 // Done: pc goes on at `next`, and memory stays.
-fn went(next: u64) -> Acted
-    ensures { result ≡ record { done = true; pc = next; stored = 0 } }
+fn went(next: u64) -> Option<Acted>
+    ensures { result ≡ Some (record { pc = next; stored = None }) }
 {
-    Acted {
-        done: true,
+    Some(Acted {
         pc: next,
-        stored: 0,
-    }
+        stored: None,
+    })
 }
 
 // Done: rd takes v, and pc goes on at `next`.
-fn wrote(x: &mut [u64; 32], rd: usize, v: u64, next: u64) -> Acted
+fn wrote(x: &mut [u64; 32], rd: usize, v: u64, next: u64) -> Option<Acted>
     requires { rd < 32 }
-    ensures { (result ≡ record { done = true; pc = next; stored = 0 }) × (x.new ≡ put_of rd v x.old) }
+    ensures { (result ≡ Some (record { pc = next; stored = None })) × (x.new ≡ put_of rd v x.old) }
 {
     x[rd] = v;
     x[0] = 0;
@@ -71,35 +58,33 @@ fn wrote(x: &mut [u64; 32], rd: usize, v: u64, next: u64) -> Acted
 }
 
 // Done: rd takes v, and pc goes on at the next instruction.
-pub fn computed(x: &mut [u64; 32], rd: usize, v: u64, pc: u64) -> Acted
+pub fn computed(x: &mut [u64; 32], rd: usize, v: u64, pc: u64) -> Option<Acted>
     requires { rd < 32 }
-    ensures { (result ≡ record { done = true; pc = next_of pc; stored = 0 }) × (x.new ≡ put_of rd v x.old) }
+    ensures { (result ≡ Some (record { pc = next_of pc; stored = None })) × (x.new ≡ put_of rd v x.old) }
 {
     wrote(x, rd, v, sum::sum(pc, 4))
 }
 
 // To a target, with the link in rd.
-fn jumped(x: &mut [u64; 32], rd: usize, link: u64, target: u64, pc: u64) -> Acted
+fn jumped(x: &mut [u64; 32], rd: usize, link: u64, target: u64, pc: u64) -> Option<Acted>
     requires { rd < 32 }
-    ensures { (result.stored ≡ 0)
-        × ((w m : List ℕ) → Does result.done (jal_of rd link target) x.old w m result.pc x.new w m) }
+    ensures { (w m : List ℕ) → Acts result (jal_of rd link target) x.old w m x.new w m }
 {
     if target % 4 == 0 {
         return wrote(x, rd, link, target);
     }
-    undone(pc)
+    None
 }
 
 // A branch's effect writes 0 to register 0, which is 0 already.
-fn branch(taken: bool, target: u64, pc: u64) -> Acted
-    ensures { (result.stored ≡ 0)
-        × ((x w m : List ℕ) → get_or x 0 0 ≡ 0 → Does result.done (branch_of taken (next_of pc) target) x w m result.pc x w m) }
+fn branch(taken: bool, target: u64, pc: u64) -> Option<Acted>
+    ensures { (x w m : List ℕ) → get_or x 0 0 ≡ 0 → Acts result (branch_of taken (next_of pc) target) x w m x w m }
 {
     if taken {
         if target % 4 == 0 {
             return went(target);
         }
-        return undone(pc);
+        return None;
     }
     went(sum::sum(pc, 4))
 }
@@ -115,20 +100,19 @@ fn load(
     c: Control,
     mem: &[u8],
     map: &[u64],
-    pages: &mut [u64; PAGES],
-) -> Acted
+    pages: &mut [Page; PAGES],
+) -> Option<Acted>
     requires { (length mem.now ≤ 2 ^ 20) × (rd < 32) × Remembers pages.old c map.now (length mem.now) }
-    ensures does { (result.stored ≡ 0) × ((w : List ℕ) → Does result.done (at_of (access.Load n sign)
+    ensures does { (w : List ℕ) → Acts result (at_of (access.Load n sign)
         (place_of c kind.Load n (sum_of a off) map.now (length mem.now)) rd 0 0 0 (next_of pc) mem.now) x.old
-        w mem.now result.pc x.new w mem.now) }
+        w mem.now x.new w mem.now }
     ensures pages { Remembers pages.new c map.now (length mem.now) }
 {
-    let q = run_pages::seek(pages, 0, Kind::Load, n, sum::sum(a, off), c, mem, map);
-    if q.found {
-        let v = memory::extend(n, sign, memory::load(mem, q.at, n));
+    if let Some(at) = run_pages::seek(pages, Kind::Load, n, sum::sum(a, off), c, mem, map) {
+        let v = memory::extend(n, sign, memory::load(mem, at, n));
         return wrote(x, rd, v, sum::sum(pc, 4));
     }
-    undone(pc)
+    None
 }
 
 fn store(
@@ -140,26 +124,22 @@ fn store(
     c: Control,
     mem: &mut [u8],
     map: &[u64],
-    pages: &mut [u64; PAGES],
-) -> Acted
+    pages: &mut [Page; PAGES],
+) -> Option<Acted>
     requires { (length mem.old ≤ 2 ^ 20) × Remembers pages.old c map.now (length mem.old) }
-    ensures does { (x w : List ℕ) → Does result.done (at_of (access.Store n)
+    ensures does { (x w : List ℕ) → Acts result (at_of (access.Store n)
         (place_of c kind.Store n (sum_of a off) map.now (length mem.old)) 0 0 v 0 (next_of pc) mem.old) x w
-        mem.old result.pc x w mem.new }
-    ensures stored { Touched result.stored mem.old mem.new }
+        mem.old x w mem.new }
     ensures pages { Remembers pages.new c map.now (length mem.old) }
 {
-    let q = run_pages::seek(pages, 1, Kind::Store, n, sum::sum(a, off), c, mem, map);
-    if q.found {
-        let at = q.at;
+    if let Some(at) = run_pages::seek(pages, Kind::Store, n, sum::sum(a, off), c, mem, map) {
         memory::store(mem, at, n, v);
-        return Acted {
-            done: true,
+        return Some(Acted {
             pc: sum::sum(pc, 4),
-            stored: at + 1,
-        };
+            stored: Some(at),
+        });
     }
-    undone(pc)
+    None
 }
 
 fn push(
@@ -169,28 +149,24 @@ fn push(
     c: Control,
     mem: &mut [u8],
     map: &[u64],
-    pages: &mut [u64; PAGES],
-) -> Acted
+    pages: &mut [Page; PAGES],
+) -> Option<Acted>
     requires { (length mem.old ≤ 2 ^ 20) × Remembers pages.old c map.now (length mem.old) }
-    ensures does { (x : List ℕ) → Does result.done (at_of access.Push (place_of c kind.Push Double (push_of (SSP of w.old))
+    ensures does { (x : List ℕ) → Acts result (at_of access.Push (place_of c kind.Push Double (push_of (SSP of w.old))
         map.now (length mem.old)) 0 0 v (SSP of w.old) (next_of pc) mem.old) x w.old
-        mem.old result.pc x w.new mem.new }
-    ensures stored { Touched result.stored mem.old mem.new }
+        mem.old x w.new mem.new }
     ensures pages { Remembers pages.new c map.now (length mem.old) }
 {
     let top = sum::difference(w[SSP], 8);
-    let q = run_pages::seek(pages, 2, Kind::Push, Width::Double, top, c, mem, map);
-    if q.found {
-        let at = q.at;
+    if let Some(at) = run_pages::seek(pages, Kind::Push, Width::Double, top, c, mem, map) {
         memory::store(mem, at, Width::Double, v);
         w[SSP] = top;
-        return Acted {
-            done: true,
+        return Some(Acted {
             pc: sum::sum(pc, 4),
-            stored: at + 1,
-        };
+            stored: Some(at),
+        });
     }
-    undone(pc)
+    None
 }
 
 fn pop(
@@ -200,23 +176,22 @@ fn pop(
     c: Control,
     mem: &[u8],
     map: &[u64],
-    pages: &mut [u64; PAGES],
-) -> Acted
+    pages: &mut [Page; PAGES],
+) -> Option<Acted>
     requires { (length mem.now ≤ 2 ^ 20) × Remembers pages.old c map.now (length mem.now) }
-    ensures does { (result.stored ≡ 0) × ((x : List ℕ) → Does result.done (at_of access.Pop (place_of c kind.Pop Double (SSP of w.old)
+    ensures does { (x : List ℕ) → Acts result (at_of access.Pop (place_of c kind.Pop Double (SSP of w.old)
         map.now (length mem.now)) 0 v 0 (SSP of w.old) (next_of pc) mem.now) x w.old
-        mem.now result.pc x w.new mem.now) }
+        mem.now x w.new mem.now }
     ensures pages { Remembers pages.new c map.now (length mem.now) }
 {
     let top = w[SSP];
-    let q = run_pages::seek(pages, 3, Kind::Pop, Width::Double, top, c, mem, map);
-    if q.found {
-        if memory::load(mem, q.at, Width::Double) == v {
+    if let Some(at) = run_pages::seek(pages, Kind::Pop, Width::Double, top, c, mem, map) {
+        if memory::load(mem, at, Width::Double) == v {
             w[SSP] = sum::sum(top, 8);
             return went(sum::sum(pc, 4));
         }
     }
-    undone(pc)
+    None
 }
 
 // a and r are the values of the form's two registers.
@@ -232,12 +207,11 @@ pub fn act(
     c: Control,
     mem: &mut [u8],
     map: &[u64],
-    pages: &mut [u64; PAGES],
-) -> Acted
+    pages: &mut [Page; PAGES],
+) -> Option<Acted>
     requires { (length mem.old ≤ 2 ^ 20) × (rd < 32) × (get_or x.old 0 0 ≡ 0) × Remembers pages.old c map.now (length mem.old) }
-    ensures does { Does result.done (does_of op rd a r v pc (SSP of w.old) c mem.old map.now) x.old
-        w.old mem.old result.pc x.new w.new mem.new }
-    ensures stored { Touched result.stored mem.old mem.new }
+    ensures does { Acts result (does_of op rd a r v pc (SSP of w.old) c mem.old map.now) x.old
+        w.old mem.old x.new w.new mem.new }
     ensures pages { Remembers pages.new c map.now (length mem.old) }
 {
     let b = sum::sum(r, v);
@@ -302,6 +276,6 @@ pub fn act(
         Op::Push => push(r, w, pc, c, mem, map, pages),
         Op::Pop => pop(a, w, pc, c, mem, map, pages),
         Op::ReadSsp => computed(x, rd, w[SSP], pc),
-        Op::Left => undone(pc),
+        Op::Left => None,
     }
 }

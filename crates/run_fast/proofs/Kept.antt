@@ -1,61 +1,65 @@
 -- After a store the memo still holds, less what was emptied.
 -- Assumes nothing.
+use Rattle.std.specs.Prelude.{Option, Some, None}
+use mathlib.Core.Bool.{Bool}
 use mathlib.Core.List.{List}
 use mathlib.Core.Logic.{⊎_elim}
 use mathlib.Core.Path.{◌≡◌, ◌∙◌, ap}
-use Prim.Native.Nat.{ℕ, ◌-◌, ◌/◌, ◌%◌, ◌<◌}
+use Prim.Native.Nat.{ℕ, ◌/◌, ◌%◌, ◌<◌}
 use native.Mathlib.Omega.{arith}
-use Rattle.word.proofs.Either.{either}
+use lib.ListN.{length}
 use Rattle.memory.specs.Bytes.{load_of}
 use Rattle.memory.proofs.Stores.{load_ext}
 use Rattle.csr_setting.specs.declared.Setting.{Setting}
-use Rattle.run_form.specs.declared.Form.{Form}
-use Rattle.run_form.specs.declared.Op.{Op}
 use Rattle.run_act.specs.Act.{Touched}
-use Rattle.run_fast.specs.Memo.{none, slot_of, tag_at, index_at, form_at, Stands, Holds, Emptied}
-use Rattle.run_fast.proofs.Fetched.{reading, offset, still, read_as}
+use Rattle.run_fast.specs.Memo.{none, slot_of, entry_at, Fewer, Stands, Holds, Emptied}
+use Rattle.run_fast.specs.declared.Entry.{Entry}
+use Rattle.run_fast.proofs.Entries.{stands_as}
+use Rattle.run_fast.proofs.Fetched.{reading, offset, still}
 
 -- the eight bytes of a word, by its entry
 near : (at pc k : ℕ) → at % 4096 ≡ pc % 4096 → pc % 4 ≡ 0 → slot_of pc ≡ k → (at % 4 ≡ 0) × (k % 1024 / 2 ≡ at / 8 % 512)
 near at pc k o a e = (omega (arith, o, a), omega (arith, o, a, e))
 
--- a word of which no byte is among the eight that were stored to
-word_kept : (m m' : List ℕ) (at stored : ℕ) → Touched stored m m' → at % 4 ≡ 0 → (0 < stored → at / 8 ≡ (stored - 1) / 8 → ⊥)
-    → load_of m' at 4 ≡ load_of m at 4
-word_kept m m' at stored t a n =
-    either 0 stored (λ h. load_ext m' m at 4 t.2 (λ j p q. t.3 j (λ e. n h (omega (arith, a, p, q, e)))))
-    (λ o. ap (λ (l : List ℕ). load_of l at 4) (t.0 (omega (arith, o))))
+-- where memory stays
+same_held : (es es' : List Entry) (frames : List Bool) (s : Setting) (m m' map : List ℕ) → m' ≡ m → Fewer es es' → Holds es frames s m map
+    → Holds es' frames s m' map
+same_held es es' frames s m m' map e f h k l left =
+    ⊎_elim (λ d. absurd (left d))
+    (λ d. rw e (stands_as (entry_at es' k) (entry_at es k) frames k s m map d (h k l (λ z. left (ap (λ (i : Entry). i.pc) d ∙ z)))))
+    (f.1 k l)
 
-module _ (nums bytes nums' : List ℕ) (ops : List Op) (s : Setting) (m m' map : List ℕ) (stored : ℕ) (t : Touched stored m m')
-    (e : Emptied nums bytes stored nums') where
-  -- an entry that is left has its old address
-  same_tag : (k : ℕ) → k < 4096 → (tag_at nums' k ≡ none → ⊥) → tag_at nums' k ≡ tag_at nums k
-  same_tag k l left = ⊎_elim (λ d. absurd (left d)) (λ d. d) (e.0.1 k l).2
+module _ (es es' : List Entry) (frames : List Bool) (s : Setting) (m m' map : List ℕ) (at : ℕ) (t : Touched (Some at) m m')
+    (e : Emptied es frames (Some at) es') where
+  -- a word of which no byte is among the eight that were stored to
+  word_kept : (i : ℕ) → i % 4 ≡ 0 → (i / 8 ≡ at / 8 → ⊥) → load_of m' i 4 ≡ load_of m i 4
+  word_kept i a n = load_ext m' m i 4 t.1 (λ j p q. t.2 j (λ d. n (omega (arith, a, p, q, d))))
 
-  module _ (k : ℕ) (l : k < 4096) (left : tag_at nums' k ≡ none → ⊥) (old : Stands nums bytes ops k s m map) where
-    abbrev at : ℕ
-    at = index_at nums k
+  module _ (k : ℕ) (l : k < 4096) (left : (entry_at es' k).pc ≡ none → ⊥) (same : entry_at es' k ≡ entry_at es k)
+      (old : Stands (entry_at es k) frames k s m map) where
+    abbrev i : Entry
+    i = entry_at es k
 
-    abbrev pc : ℕ
-    pc = tag_at nums k
+    placed : (i.at % 4 ≡ 0) × (k % 1024 / 2 ≡ i.at / 8 % 512)
+    placed = near i.at i.pc k (offset i s m map old.read) (reading i s m map old.read).1 old.slot
 
-    abbrev f : Form
-    f = form_at nums bytes ops k
+    word : load_of m' i.at 4 ≡ load_of m i.at 4
+    word = word_kept i.at placed.0 (λ d. left (e.1 k l old.flag (rw (← d) placed.1) (rw same d)))
 
-    placed : (at % 4 ≡ 0) × (k % 1024 / 2 ≡ at / 8 % 512)
-    placed = near at pc k (offset f at pc s m map old.read) (reading f at pc s m map old.read).1 old.slot
+    stands : Stands (entry_at es' k) frames k s m' map
+    stands =
+        stands_as (entry_at es' k) i frames k s m' map same
+        (record { slot = old.slot; read = still i s m map old.read m' t.1 word; flag = old.flag })
 
-    word : load_of m' at 4 ≡ load_of m at 4
-    word = word_kept m m' at stored t placed.0 (λ p d. left (e.1 p k l old.flag (rw (← d) placed.1) (rw (e.0.1 k l).0 d)))
+  stored_held : Holds es frames s m map → Holds es' frames s m' map
+  stored_held h k l left =
+      ⊎_elim (λ d. absurd (left d)) (λ d. stands k l left d (h k l (λ z. left (ap (λ (i : Entry). i.pc) d ∙ z)))) (e.0.1 k l)
 
-    stands : Stands nums' bytes ops k s m' map
-    stands = record {
-      slot = rw (same_tag k l left) old.slot;
-      read = read_as f (form_at nums' bytes ops k) at (index_at nums' k) pc (tag_at nums' k) s m' map (rw (e.0.1 k l).1) (e.0.1 k l).0
-          (same_tag k l left) (still f at pc s m map old.read m' t.2 word);
-      sum = old.sum;
-      flag = rw (e.0.1 k l).0 old.flag;
-    }
+pub kept : (es es' : List Entry) (frames : List Bool) (s : Setting) (m m' map : List ℕ) (stored : Option ℕ) → Touched stored m m'
+    → Emptied es frames stored es' → Holds es frames s m map → Holds es' frames s m' map
+kept es es' frames s m m' map None t e h = same_held es es' frames s m m' map t e h
+kept es es' frames s m m' map (Some at) t e h = stored_held es es' frames s m m' map at t e h
 
-  pub kept : Holds nums bytes ops s m map → Holds nums' bytes ops s m' map
-  kept h k l left = stands k l left (h k l (λ d. left (same_tag k l left ∙ d)))
+pub as_long : (es es' : List Entry) (frames : List Bool) (stored : Option ℕ) → Emptied es frames stored es' → length es' ≡ length es
+as_long es es' frames None e = e.0
+as_long es es' frames (Some at) e = e.0.0

@@ -1,5 +1,4 @@
 -- The laws of the memo and of a step by it that belong to no one function.
-pub mod Cleared
 pub mod Entries
 pub mod Fetched
 pub mod Kept

@@ -14,7 +14,6 @@ use Rattle.word.specs.Sum.{sum_of}
 use Rattle.isa.specs.Size.{width_of}
 use Rattle.isa.specs.declared.Access.{Access}
 use Rattle.isa.specs.declared.Access.TheVariants as access
-use Rattle.isa.specs.declared.Width.TheVariants as width
 use Rattle.decode.specs.Decode.{decode_of}
 use Rattle.memory.specs.Bytes.{load_of}
 use Rattle.address_place.specs.Place.{base}
@@ -37,7 +36,7 @@ use Rattle.csr_setting.specs.Regime.{control_of}
 use Rattle.csr_setting.specs.declared.Setting.{Setting}
 use Rattle.csr_words.specs.Words.{◌of◌, MODE, SSP}
 use Rattle.csr_words.specs.Setting.{setting_of}
-use Rattle.run_done.specs.Moves.{Applied, Does}
+use Rattle.run_done.specs.Moves.{Applied}
 use Rattle.run_csrs.specs.Handler.{Carried, Handled, Handles}
 use Rattle.run_form.specs.Form.{Shape, Compute, ComputeWord, Jal, Jalr, Branch, Memory, ReadSsp, Left, shape_of, shape_does, does_of}
 use Rattle.run_form.specs.declared.Form.{Form}
@@ -48,40 +47,37 @@ use Rattle.step_hart.specs.Run.{Run, Midway}
 use Rattle.run_turn.specs.Glide.{hart_at, Straight, Fetches, Turned}
 use Rattle.run_turn.proofs.Gliding.{quickly, by_handler}
 use Rattle.run_fast.specs.Memo.{Read}
+use Rattle.run_fast.specs.declared.Entry.{Entry}
 
 -- the word that was read is the one that a fetch gives
-pub fetches : (f : Form) (at pc : ℕ) (w m map : List ℕ) → Read f at pc (setting_of w) m map → Fetches (load_of m at 4) pc w m map
+pub fetches : (e : Entry) (w m map : List ℕ) → Read e (setting_of w) m map → Fetches (load_of m e.at 4) e.pc w m map
 unfolding fetched_of
-fetches f at pc w m map r =
-    let e : base + at - base ≡ at = omega arith in
-    rw (r.place, e)
+fetches e w m map r =
+    let i : base + e.at - base ≡ e.at = omega arith in
+    rw (r.place, i)
 
 -- what is left is not done, and any other form does what the instruction does
-module _ (f : Form) (at pc : ℕ) (x w m map : List ℕ) (zero : reg_of x 0 ≡ 0) (r : Read f at pc (setting_of w) m map)
-    (fits : reg_of x f.rs2 < 2 ^ 64) (small : f.value < 2 ^ 64) (pc' : ℕ) (x' w' m' : List ℕ) where
+module _ (e : Entry) (x w m map : List ℕ) (zero : reg_of x 0 ≡ 0) (r : Read e (setting_of w) m map)
+    (fits : reg_of x e.form.rs2 < 2 ^ 64) (small : e.form.value < 2 ^ 64) (pc' : ℕ) (x' w' m' : List ℕ) where
+  abbrev f : Form
+  f = e.form
+
   abbrev does : Effect
-  does = does_of f.op f.rd (reg_of x f.rs1) (reg_of x f.rs2) f.value pc (SSP of w) (setting_of w).control m map
+  does = does_of f.op f.rd (reg_of x f.rs1) (reg_of x f.rs2) f.value e.pc (SSP of w) (setting_of w).control m map
 
   abbrev executes : Effect
-  executes = execute_of (decode_of (load_of m at 4)) (load_of m at 4) x pc (SSP of w) (setting_of w) m map
+  executes = execute_of (decode_of (load_of m e.at 4)) (load_of m e.at 4) x e.pc (SSP of w) (setting_of w) m map
 
   undone : f.op ≡ op.Left → Applied does x w m pc' x' w' m' → Applied executes x w m pc' x' w' m'
   unfolding does_of
   undone l d = absurd (rw l at d)
 
-  as_executed : (done : Bool) → Does done does x w m pc' x' w' m' → Does done executes x w m pc' x' w' m'
-  as_executed true d =
-      ⊎_elim (λ l. undone l d) (λ e. subst (λ (g : Effect). Applied g x w m pc' x' w' m') (sym (e x (SSP of w) m map zero fits small)) d) r.means
-  as_executed false d = d
+  as_executed : Applied does x w m pc' x' w' m' → Applied executes x w m pc' x' w' m'
+  as_executed d =
+      ⊎_elim (λ l. undone l d) (λ g. subst (λ (h : Effect). Applied h x w m pc' x' w' m') (sym (g x (SSP of w) m map zero fits small)) d) r.means
 
-pub acted : (f : Form) (at pc : ℕ) (x w m map : List ℕ) → Straight w → reg_of x 0 ≡ 0 → Read f at pc (setting_of w) m map
-    → reg_of x f.rs2 < 2 ^ 64 → f.value < 2 ^ 64 → (done : Bool) (pc' : ℕ) (x' w' m' : List ℕ)
-    → Does done (does_of f.op f.rd (reg_of x f.rs1) (reg_of x f.rs2) f.value pc (SSP of w) (setting_of w).control m map) x w m pc' x' w'
-    m'
-    → Turned done pc x w m map pc' x' w' m'
-acted f at pc x w m map st zero r fits small done pc' x' w' m' d =
-    quickly pc x w m st map (load_of m at 4) (fetches f at pc w m map r) done pc' x' w' m'
-    (as_executed f at pc x w m map zero r fits small pc' x' w' m' done d)
+  pub acted : Straight w → Applied does x w m pc' x' w' m' → Turned true e.pc x w m map pc' x' w' m'
+  acted st d = quickly e.pc x w m st map (load_of m e.at 4) (fetches e w m map r) true pc' x' w' m' (as_executed d)
 
 -- register 0
 put_zero : (l : List ℕ) → get_or (set l 0 0) 0 0 ≡ 0
@@ -187,40 +183,37 @@ module _ (rd a r v pc ssp : ℕ) (c : Control) (m map : List ℕ) (z : pc % 4 �
   unfolding does_of
   acted_lands o x w m' pc' x' w' d = landed (shape_does (shape_of o) rd a r v pc ssp c m map) x w m pc' x' w' m' (shape_lands (shape_of o)) d
 
--- a form was carried out, or nothing changed
-module _ (f : Form) (at pc : ℕ) (x w m map : List ℕ) (s : Setting) (st : Straight w) (zero : reg_of x 0 ≡ 0) (z : pc % 4 ≡ 0) (es : setting_of w ≡ s)
-    (r : Read f at pc s m map) (o : Op) (rd a b v : ℕ) (eo : o ≡ f.op) (erd : rd ≡ f.rd) (ea : a ≡ reg_of x f.rs1) (eb : b ≡ reg_of x f.rs2)
-    (ev : v ≡ f.value) (hb : b < 2 ^ 64) (hv : v < 2 ^ 64) (done : Bool) (pc' : ℕ) (x' w' m' : List ℕ)
-    (d : Does done (does_of o rd a b v pc (SSP of w) s.control m map) x w m pc' x' w' m') where
-  same : Does done (does_of f.op f.rd (reg_of x f.rs1) (reg_of x f.rs2) f.value pc (SSP of w) (setting_of w).control m map) x w m pc' x'
-      w' m'
-  same = rw es (rw (eo, erd, ea, eb, ev) at d)
+-- a form was carried out at pc, which is its entry's address
+module _ (e : Entry) (x w m map : List ℕ) (s : Setting) (st : Straight w) (zero : reg_of x 0 ≡ 0) (es : setting_of w ≡ s)
+    (r : Read e s m map) (hb : reg_of x e.form.rs2 < 2 ^ 64) (hv : e.form.value < 2 ^ 64) (pc' : ℕ) (x' w' m' : List ℕ) where
+  abbrev does_at : (pc : ℕ) → Effect
+  does_at pc = does_of e.form.op e.form.rd (reg_of x e.form.rs1) (reg_of x e.form.rs2) e.form.value pc (SSP of w) s.control m map
 
-  turned : Turned done pc x w m map pc' x' w' m'
-  turned = acted f at pc x w m map st zero (rw es r) (rw (← eb) hb) (rw (← ev) hv) done pc' x' w' m' same
+  abbrev Carries : (pc : ℕ) → Type 0
+  Carries pc =
+      pc % 4 ≡ 0 → Applied (does_at pc) x w m pc' x' w' m'
+      → Turned true pc x w m map pc' x' w' m' × (get_or x' 0 0 ≡ 0) × (pc' % 4 ≡ 0)
 
-  pub carried : done ≡ true → Turned true pc x w m map pc' x' w' m' × (get_or x' 0 0 ≡ 0) × (pc' % 4 ≡ 0)
-  carried t = (
-    rw t at turned,
-    applied_zero x w m zero (does_of o rd a b v pc (SSP of w) s.control m map) pc' x' w' m' (rw t at d),
-    acted_lands rd a b v pc (SSP of w) s.control m map z o x w m' pc' x' w' (rw t at d),
+  own : Carries e.pc
+  own z d = (
+    acted e x w m map zero (rw es r) hb hv pc' x' w' m' st (rw es d),
+    applied_zero x w m zero (does_at e.pc) pc' x' w' m' d,
+    acted_lands e.form.rd _ _ e.form.value e.pc (SSP of w) s.control m map z e.form.op x w m' pc' x' w' d,
   )
 
-  pub stayed : done ≡ false → (x' ≡ x) × (w' ≡ w) × (m' ≡ m)
-  stayed t = rw t at d
+  pub carried : (pc : ℕ) → e.pc ≡ pc → Carries pc
+  carried pc at = subst Carries at own
 
 -- a form that adds was carried out by itself: its sum was written, and pc went on
-module _ (f : Form) (at pc : ℕ) (x w m map : List ℕ) (s : Setting) (st : Straight w) (zero : reg_of x 0 ≡ 0) (z : pc % 4 ≡ 0) (es : setting_of w ≡ s)
-    (r : Read f at pc s m map) (hb : reg_of x f.rs2 < 2 ^ 64) (hv : f.value < 2 ^ 64) (pc' : ℕ) (x' : List ℕ) (adds : f.op ≡ op.Add)
-    (d : (pc' ≡ next_of pc) × (x' ≡ put_of f.rd (sum_of (reg_of x f.rs1) (sum_of (reg_of x f.rs2) f.value)) x)) where
-  does_sum : Does true (does_of f.op f.rd (reg_of x f.rs1) (reg_of x f.rs2) f.value pc (SSP of w) s.control m map) x w m pc' x' w m
+module _ (e : Entry) (x w m map : List ℕ) (s : Setting) (st : Straight w) (zero : reg_of x 0 ≡ 0) (es : setting_of w ≡ s)
+    (r : Read e s m map) (hb : reg_of x e.form.rs2 < 2 ^ 64) (hv : e.form.value < 2 ^ 64) (pc' : ℕ) (x' : List ℕ) (adds : e.form.op ≡ op.Add)
+    (pc : ℕ) (d : (pc' ≡ next_of pc) × (x' ≡ put_of e.form.rd (sum_of (reg_of x e.form.rs1) (sum_of (reg_of x e.form.rs2) e.form.value)) x)) where
+  does_sum : Applied (does_at e x w m map s st zero es r hb hv pc' x' w m pc) x w m pc' x' w m
   unfolding does_of
   does_sum = rw adds (d.0, d.1, refl, refl)
 
-  pub summed : Turned true pc x w m map pc' x' w m × (get_or x' 0 0 ≡ 0) × (pc' % 4 ≡ 0)
-  summed =
-      carried f at pc x w m map s st zero z es r f.op f.rd (reg_of x f.rs1) (reg_of x f.rs2) f.value refl refl refl refl refl hb hv true
-      pc' x' w m does_sum refl
+  pub summed : e.pc ≡ pc → pc % 4 ≡ 0 → Turned true pc x w m map pc' x' w m × (get_or x' 0 0 ≡ 0) × (pc' % 4 ≡ 0)
+  summed at z = carried e x w m map s st zero es r hb hv pc' x' w m pc at z does_sum
 
 -- the setting's mode is the words'
 mode_said : (w : List ℕ) → (setting_of w).control.mode ≡ mode_of (MODE of w)
@@ -228,19 +221,25 @@ unfolding setting_of control_of
 mode_said w = refl
 
 -- a trap handler's CSR instruction was carried out, or nothing changed: x₁, w₁ and m₁ are what a form left, which was not carried out
-module _ (f : Form) (at pc : ℕ) (x w m map : List ℕ) (s : Setting) (st : Straight w) (zero : reg_of x 0 ≡ 0) (es : setting_of w ≡ s)
-    (r : Read f at pc s m map) (x₁ w₁ m₁ : List ℕ) (at₁ : ℕ) (ex : x₁ ≡ x) (ew : w₁ ≡ w) (em : m₁ ≡ m) (ea : at₁ ≡ at) (done : Bool) (x' w' : List ℕ)
+module _ (e : Entry) (x w m map : List ℕ) (s : Setting) (st : Straight w) (zero : reg_of x 0 ≡ 0) (es : setting_of w ≡ s)
+    (r : Read e s m map) (x₁ w₁ m₁ : List ℕ) (ex : x₁ ≡ x) (ew : w₁ ≡ w) (em : m₁ ≡ m) (done : Bool) (x' w' : List ℕ)
     (h : (p ssp : ℕ) (t : Setting) (n map' : List ℕ) → t.control.mode ≡ mode_of (MODE of w₁)
-    → Handles done (execute_of (decode_of (load_of m₁ at₁ 4)) (load_of m₁ at₁ 4) x₁ p ssp t n map') x₁ w₁ (next_of p) x' w') where
-  same_handled : Handles done (execute_of (decode_of (load_of m at 4)) (load_of m at 4) x pc (SSP of w) (setting_of w) m map) x w (next_of pc) x' w'
-  same_handled = (rw (ex, ew, em, ea) at h) pc (SSP of w) (setting_of w) m map (mode_said w)
+    → Handles done (execute_of (decode_of (load_of m₁ e.at 4)) (load_of m₁ e.at 4) x₁ p ssp t n map') x₁ w₁ (next_of p) x' w') where
+  same_handled : Handles done (execute_of (decode_of (load_of m e.at 4)) (load_of m e.at 4) x e.pc (SSP of w) (setting_of w) m map) x w (next_of e.pc) x' w'
+  same_handled = (rw (ex, ew, em) at h) e.pc (SSP of w) (setting_of w) m map (mode_said w)
 
-  pub handled_on : done ≡ true → Turned true pc x w m map (next_of pc) x' w' m × (get_or x' 0 0 ≡ 0)
-  handled_on t =
+  abbrev On : (pc : ℕ) → Type 0
+  On pc = Turned true pc x w m map (next_of pc) x' w' m × (get_or x' 0 0 ≡ 0)
+
+  own_handled : done ≡ true → On e.pc
+  own_handled t =
       let d = rw t at same_handled in (
-        by_handler pc x w m st map (load_of m at 4) (fetches f at pc w m map (rw es r)) x' w' d,
-        handled_zero x w m zero (execute_of (decode_of (load_of m at 4)) (load_of m at 4) x pc (SSP of w) (setting_of w) m map) (next_of pc) x' w' d,
+        by_handler e.pc x w m st map (load_of m e.at 4) (fetches e w m map (rw es r)) x' w' d,
+        handled_zero x w m zero _ (next_of e.pc) x' w' d,
       )
+
+  pub handled_on : (pc : ℕ) → e.pc ≡ pc → done ≡ true → On pc
+  handled_on pc at t = subst On at (own_handled t)
 
   pub handled_off : done ≡ false → (x' ≡ x) × (w' ≡ w)
   handled_off t = rw t at same_handled

@@ -5,8 +5,7 @@
 // The memo and the remembered pages are locals of `steps`, which has one setting: where that changes it has ended, and what was remembered is gone.
 #![tactic(auto)]
 
-ghost use Rattle.std.specs.Prelude.{true, false, List, ◌≡◌, ℕ, ◌+◌, ◌/◌, ◌%◌, ◌^◌, ◌<◌, ◌≤◌, length, get_or};
-ghost use Rattle.word.specs.Choice.{pick};
+ghost use Rattle.std.specs.Prelude.{true, false, IfSome, List, ◌≡◌, ℕ, ◌+◌, ◌/◌, ◌%◌, ◌^◌, ◌<◌, ◌≤◌, length, get_or, set};
 ghost use Rattle.word.specs.Sum.{sum_of};
 ghost use Rattle.decode.specs.Decode.{decode_of};
 ghost use Rattle.memory.specs.Bytes.{load_of};
@@ -21,37 +20,45 @@ ghost use Rattle.csr_words.specs.Setting.{setting_of};
 ghost use Rattle.step_hart.specs.Hart.{hart};
 ghost use Rattle.step_hart.specs.Run.{run_from, Midway};
 ghost use Rattle.run_form.specs.Form.{Means};
-ghost use Rattle.run_form.specs.declared.Op.TheVariants.{Add};
 ghost use Rattle.run_turn.specs.Glide.{Straight, Glides};
-ghost use Rattle.run_fast.specs.Memo.{index_at, Read, nums_with, Entered, Fewer, Clear, AllClear, Emptied};
+ghost use Rattle.run_fast.specs.Memo.{slot_of, Read, Fewer, Clear, AllClear, Emptied};
 
 use address::Virtual;
 use address_place::Place;
 use address_place::steps::fetch;
 use csr_setting::Setting;
-use csr_words::{COUNT, ELP, PC, setting, sized};
+use csr_words::{COUNT as WORDS, ELP, PC, setting, sized};
 use decode::{plain, privileged};
 use run_form::{Form, Op};
 use run_pages::COUNT as PAGES;
 use run_turn::Glided;
 use word::sum;
 
-// Addresses, indices and numbers of 4,096 entries.
-const NUMS: usize = 12288;
+// How many entries the memo has, and how many frames memory has at most.
+const COUNT: usize = 4096;
 
-// Three registers of 4,096 entries, whether each is a sum, and a flag for each frame.
-const BYTES: usize = 16640;
+const FRAMES: usize = 256;
 
-// The address of an empty entry, which no word has. Its bytes are alike, so that the memo is cleared by one fill.
-const EMPTY: u64 = 0x0101_0101_0101_0101;
-
-// What stands at an address, if a fetch there has a place: the index of the word, and its form.
+// What is known of the word at an address: where it stands in memory, and its form.
 #[derive(Clone, Copy)]
-pub struct Known {
-    pub there: bool,
+pub struct Entry {
+    pub pc: u64,
     pub at: usize,
     pub form: Form,
 }
+
+// An empty entry: its address is no multiple of 4, so that no word has it.
+const EMPTY: Entry = Entry {
+    pc: 1,
+    at: 0,
+    form: Form {
+        op: Op::Left,
+        rd: 0,
+        rs1: 0,
+        rs2: 0,
+        value: 0,
+    },
+};
 
 // A word's form. A privileged one has none, so that it need not be decoded.
 fn of_word(w: u32, pc: u64, s: Setting) -> Form
@@ -64,191 +71,108 @@ fn of_word(w: u32, pc: u64, s: Setting) -> Form
     run_form::formed(plain(w), pc, s)
 }
 
-fn read(pc: u64, s: Setting, mem: &[u8], map: &[u64]) -> Known
+// The entry of an address, if a fetch there has a place.
+fn read(pc: u64, s: Setting, mem: &[u8], map: &[u64]) -> Option<Entry>
     requires { length mem.now ≤ 2 ^ 20 }
-    ensures { result.there ≡ true → (result.at < 2 ^ 20) × Read result.form result.at pc s mem.now map.now }
+    ensures { IfSome result (λ e. (e.at < 2 ^ 20) × (e.pc ≡ pc) × Read e s mem.now map.now) }
 {
     let c = s.control;
     match fetch(c, Virtual(pc), map, mem) {
         Place::At(q) => {
             let at = q.index();
-            let f = of_word(memory::word(mem, at), pc, s);
-            Known {
-                there: true,
-                at,
-                form: f,
-            }
+            let form = of_word(memory::word(mem, at), pc, s);
+            Some(Entry { pc, at, form })
         }
-        Place::Fault(_, _) => Known {
-            there: false,
-            at: 0,
-            form: run_form::left(),
-        },
+        Place::Fault(_, _) => None,
     }
 }
 
-// 1 for a sum, which is what programs do most: the loop asks for it before the jump that all others share, since the processor foresees a branch
-// better than where that jump goes (docs/SPEED.md).
-fn sums(op: Op) -> u8
-    ensures { result ≡ 1 → op ≡ Add }
-{
-    match op {
-        Op::Add => 1,
-        _ => 0,
-    }
-}
-
-// The numbers of the entry of pc, and that its word's frame has one.
-fn fill(nums: &mut [u64; NUMS], bytes: &mut [u8; BYTES], pc: u64, at: usize, f: Form)
-    requires { at < 2 ^ 20 }
-    ensures { (nums.new ≡ nums_with nums.old pc at f.value)
-        × Entered true bytes.old pc at f bytes.new }
-{
-    let k = (pc / 4 % 4096) as usize;
-    let op = f.op;
-    nums[k] = pc;
-    nums[k + 4096] = at as u64;
-    nums[k + 8192] = f.value;
-    bytes[k] = f.rd;
-    bytes[k + 4096] = f.rs1;
-    bytes[k + 8192] = f.rs2;
-    bytes[k + 12288] = sums(op);
-    bytes[at / 4096 + 16384] = 1;
-}
-
-// The checker knows an array's length where it is passed by value, and not behind a reference. Nothing is left of this when it is compiled.
-fn measured(nums: [u64; NUMS], bytes: [u8; BYTES])
-    ensures { (length nums ≡ 12288) × (length bytes ≡ 16640) }
-{}
-
-// Reads the word at pc into its entry, all but its operation, which the caller stores.
+// Reads the word at pc into its entry, and marks its frame as one that a word was taken from.
 fn enter(
-    nums: &mut [u64; NUMS],
-    bytes: &mut [u8; BYTES],
+    entries: &mut [Entry; COUNT],
+    frames: &mut [bool; FRAMES],
     pc: u64,
     s: Setting,
     mem: &[u8],
     map: &[u64],
-) -> Known
+) -> Option<Entry>
     requires { length mem.now ≤ 2 ^ 20 }
-    ensures read { result.there ≡ true → (result.at < 2 ^ 20) × Read result.form result.at pc s mem.now map.now }
-    ensures nums { nums.new ≡ pick result.there (nums_with nums.old pc result.at result.form.value) nums.old }
-    ensures bytes { Entered result.there bytes.old pc result.at result.form bytes.new }
-    ensures lengths { (length nums.old ≡ 12288) × (length bytes.old ≡ 16640) }
+    ensures { IfSome result (λ e. (e.at < 2 ^ 20) × (e.pc ≡ pc) × Read e s mem.now map.now
+        × (entries.new ≡ set entries.old (slot_of pc) e) × (frames.new ≡ set frames.old (e.at / 4096) true)) }
 {
-    measured(*nums, *bytes);
-    let e = read(pc, s, mem, map);
-    if e.there {
-        let f = e.form;
-        fill(nums, bytes, pc, e.at, f);
-        return e;
-    }
-    e
+    let e = read(pc, s, mem, map)?;
+    entries[(pc / 4 % 4096) as usize] = e;
+    frames[e.at / 4096] = true;
+    Some(e)
 }
 
 // Entry k is emptied if its word is among these eight bytes.
-fn clear(nums: &mut [u64; NUMS], k: usize, eight: u64)
+fn clear(entries: &mut [Entry; COUNT], k: usize, eight: usize)
     requires { k < 4096 }
-    ensures { Fewer nums.old nums.new × Clear nums.new k eight }
+    ensures { Fewer entries.old entries.new × Clear entries.new k eight }
 {
-    if nums[k + 4096] / 8 == eight {
-        nums[k] = EMPTY;
-        return;
+    if entries[k].at / 8 == eight {
+        entries[k] = EMPTY;
     }
 }
 
 // An address and its place have the same offset in their page, so that the entries to look at are two in each quarter of the memo.
-fn forget(nums: &mut [u64; NUMS], eight: u64)
-    ensures { Fewer nums.old nums.new × AllClear nums.new 4096 eight }
+fn forget(entries: &mut [Entry; COUNT], eight: usize)
+    ensures { Fewer entries.old entries.new × AllClear entries.new 4096 eight }
 {
-    let first = (eight % 512 * 2) as usize;
-    let mut i = 0;
-    while i < 4096 {
-        clear(nums, first + i, eight);
-        clear(nums, first + i + 1, eight);
-        i = i + 1024;
+    for quarter in 0..4 {
+        let first = quarter * 1024 + eight % 512 * 2;
+        clear(entries, first, eight);
+        clear(entries, first + 1, eight);
     }
 }
 
 // What a store empties: where no word was taken from the frame, nothing.
-fn empty(nums: &mut [u64; NUMS], bytes: &[u8; BYTES], stored: usize)
-    requires { stored ≤ 2 ^ 20 }
-    ensures { Emptied nums.old bytes.now stored nums.new }
+fn empty(entries: &mut [Entry; COUNT], frames: &[bool; FRAMES], stored: Option<usize>)
+    requires { IfSome stored (λ at. at < 2 ^ 20) }
+    ensures { Emptied entries.old frames.now stored entries.new }
 {
-    if stored == 0 {
-        return;
+    if let Some(at) = stored
+        && frames[at / 4096]
+    {
+        forget(entries, at / 8);
     }
-    let at = stored - 1;
-    if bytes[at / 4096 + 16384] == 0 {
-        return;
-    }
-    forget(nums, (at / 8) as u64);
 }
 
-// The number at k, the register's number at k, and the value of that register.
-fn number(nums: &[u64; NUMS], k: usize) -> u64
-    requires { k < 12288 }
-    ensures { result ≡ get_or nums.now k 0 }
+// The value of the register of this number.
+fn value(x: &[u64; 32], n: u8) -> u64
+    requires { n < 32 }
+    ensures { result ≡ reg_of x.now n }
 {
-    nums[k]
+    x[n as usize]
 }
 
-fn register(bytes: &[u8; BYTES], k: usize) -> usize
-    requires { (k < 12288) × (get_or bytes.now k 0 < 32) }
-    ensures { result ≡ get_or bytes.now k 0 }
-{
-    let n = bytes[k] as usize;
-    n
-}
-
-fn value(x: &[u64; 32], bytes: &[u8; BYTES], k: usize) -> u64
-    requires { (k < 12288) × (get_or bytes.now k 0 < 32) }
-    ensures { result ≡ reg_of x.now (get_or bytes.now k 0) }
-{
-    let n = bytes[k] as usize;
-    x[n]
-}
-
-// The sum of entry k, and pc after it.
-fn added(nums: &[u64; NUMS], bytes: &[u8; BYTES], k: usize, x: &mut [u64; 32], pc: u64) -> u64
-    requires { (k < 4096) × (get_or bytes.now k 0 < 32) × (get_or bytes.now (k + 4096) 0 < 32) × (get_or bytes.now (k + 8192) 0 < 32) }
+// The sum that a form is, and pc after it.
+fn added(f: &Form, x: &mut [u64; 32], pc: u64) -> u64
+    requires { (f.now.rd < 32) × (f.now.rs1 < 32) × (f.now.rs2 < 32) }
     ensures sum { (result ≡ next_of pc)
-        × (x.new ≡ put_of (get_or bytes.now k 0)
-        (sum_of (reg_of x.old (get_or bytes.now (k + 4096) 0))
-        (sum_of (reg_of x.old (get_or bytes.now (k + 8192) 0)) (get_or nums.now (k + 8192) 0)))
-        x.old) }
-    ensures small { (reg_of x.old (get_or bytes.now (k + 8192) 0) < 2 ^ 64)
-        × (get_or nums.now (k + 8192) 0 < 2 ^ 64) }
+        × (x.new ≡ put_of f.now.rd (sum_of (reg_of x.old f.now.rs1) (sum_of (reg_of x.old f.now.rs2) f.now.value)) x.old) }
+    ensures small { (reg_of x.old f.now.rs2 < 2 ^ 64) × (f.now.value < 2 ^ 64) }
 {
-    let b = sum::sum(value(x, bytes, k + 8192), number(nums, k + 8192));
-    let v = sum::sum(value(x, bytes, k + 4096), b);
-    let t = run_act::computed(x, register(bytes, k), v, pc);
-    t.pc
+    let b = sum::sum(value(x, f.rs2), f.value);
+    let v = sum::sum(value(x, f.rs1), b);
+    run_act::computed(x, f.rd as usize, v, pc).unwrap().pc
 }
 
-// A trap handler's CSR instruction, whose word is that of entry k. The index is read here and not in the loop, which would keep k + 4096 at hand in
-// every step (docs/SPEED.md).
-fn handled(
-    nums: &[u64; NUMS],
-    k: usize,
-    mem: &[u8],
-    x: &mut [u64; 32],
-    w: &mut [u64; COUNT],
-) -> bool
-    requires { (k < 4096) × (index_at nums.now k + 4 ≤ length mem.now) }
+// A trap handler's CSR instruction, whose word stands at this index.
+fn handled(at: usize, mem: &[u8], x: &mut [u64; 32], w: &mut [u64; WORDS]) -> bool
+    requires { at + 4 ≤ length mem.now }
     ensures { (pc ssp : ℕ) (s : setting.Setting) (m map : List ℕ) → s.control.mode ≡ mode_of (MODE of w.old)
-        → Handles result (execute_of (decode_of (load_of mem.now (index_at nums.now k) 4))
-        (load_of mem.now (index_at nums.now k) 4) x.old pc ssp s m map)
+        → Handles result (execute_of (decode_of (load_of mem.now at 4)) (load_of mem.now at 4) x.old pc ssp s m map)
         x.old w.old (next_of pc) x.new w.new }
 {
-    let at = number(nums, k + 4096) as usize;
     run_csrs::handle(memory::word(mem, at), x, w)
 }
 
 // As many steps as the forms take, from `start` on.
 fn steps(
     x: &mut [u64; 32],
-    w: &mut [u64; COUNT],
+    w: &mut [u64; WORDS],
     start: u64,
     s: Setting,
     mem: &mut [u8],
@@ -260,36 +184,32 @@ fn steps(
         w.new mem.new }
     ensures words { setting_of w.new ≡ setting_of w.old }
 {
-    let mut nums: [u64; NUMS] = [EMPTY; NUMS];
-    let mut bytes: [u8; BYTES] = [0; BYTES];
-    let mut ops: [Op; 4096] = [Op::Left; 4096];
-    let mut pages: [u64; PAGES] = [8; PAGES];
+    let mut entries = [EMPTY; COUNT];
+    let mut frames = [false; FRAMES];
+    let mut pages = [run_pages::EMPTY; PAGES];
     let mut pc = start;
     let mut left = budget;
     while 0 < left {
         let k = (pc / 4 % 4096) as usize;
-        if nums[k] != pc {
-            let e = enter(&mut nums, &mut bytes, pc, s, mem, map);
-            let f = e.form;
-            let op = f.op;
-            if e.there {
-                ops[k] = op;
-            } else {
+        if entries[k].pc != pc {
+            let Some(_) = enter(&mut entries, &mut frames, pc, s, mem, map) else {
                 return Glided { pc, left };
-            }
+            };
         }
-        if bytes[k + 12288] == 1 {
-            pc = added(&nums, &bytes, k, x, pc);
+        let f = &entries[k].form;
+        // Asked before the jump that all others share, since sums are what programs do most, and the processor foresees a branch better than where
+        // that jump goes (docs/SPEED.md).
+        if matches!(f.op, Op::Add) {
+            pc = added(f, x, pc);
             left = left - 1;
             continue;
         }
-        let op = ops[k];
-        let t = run_act::act(
-            op,
-            register(&bytes, k),
-            value(x, &bytes, k + 4096),
-            value(x, &bytes, k + 8192),
-            number(&nums, k + 8192),
+        match run_act::act(
+            f.op,
+            f.rd as usize,
+            value(x, f.rs1),
+            value(x, f.rs2),
+            f.value,
             x,
             w,
             pc,
@@ -297,19 +217,19 @@ fn steps(
             mem,
             map,
             &mut pages,
-        );
-        if t.done {
-            empty(&mut nums, &bytes, t.stored);
-            pc = t.pc;
-            left = left - 1;
-            continue;
+        ) {
+            Some(t) => {
+                empty(&mut entries, &frames, t.stored);
+                pc = t.pc;
+            }
+            None => {
+                if !handled(entries[k].at, mem, x, w) {
+                    return Glided { pc, left };
+                }
+                pc = sum::sum(pc, 4);
+            }
         }
-        if handled(&nums, k, mem, x, w) {
-            pc = sum::sum(pc, 4);
-            left = left - 1;
-            continue;
-        }
-        return Glided { pc, left };
+        left = left - 1;
     }
     Glided { pc, left }
 }
@@ -318,18 +238,13 @@ fn steps(
 fn open(elp: u64, zero: u64, pc: u64) -> bool
     ensures { result ≡ true → (elp ≡ 0) × (zero ≡ 0) × (pc % 4 ≡ 0) }
 {
-    if elp == 0 {
-        if zero == 0 {
-            return pc % 4 == 0;
-        }
-    }
-    false
+    elp == 0 && zero == 0 && pc % 4 == 0
 }
 
 // As many steps as the fast path takes, which clears its memo first; what is left of the budget.
 pub fn fast(
     x: &mut [u64; 32],
-    w: &mut [u64; COUNT],
+    w: &mut [u64; WORDS],
     mem: &mut [u8],
     map: &[u64],
     budget: u64,

@@ -25,7 +25,7 @@ use Rattle.address_place.specs.declared.Place.{Place}
 use Rattle.address_place.specs.declared.Place.TheVariants.{At}
 use Rattle.address_place.proofs.Page.{inside_there, page_decides}
 use Rattle.address_place.proofs.Reach.{behind, place_within, place_plain}
-use Rattle.run_pages.specs.Pages.{OnPage, Page}
+use Rattle.run_pages.specs.Pages.{OnPage, Covers}
 use Rattle.run_pages.proofs.Moved.{transform_alike}
 
 -- an offset in a page, of an aligned access of this width
@@ -109,7 +109,7 @@ module _ (c : Control) (k : Kind) (low : ℕ) (map : List ℕ) (len : ℕ) (q : 
       ∙ ap (λ (n : ℕ). reached_of c m k w n map len) (transform_alike low (a % 4096) start o.near c m k).0
       ∙ there w (a % 4096) o
 
-  pub decided : Page low (q.0 - base) k c map len
+  pub decided : Covers (record { first = low; at = q.0 - base }) k c map len
   decided w a h e =
       let (s, o) = on_page low w a start e in
       let n : q.0 + a % 4096 ≡ base + (q.0 - base + a % 4096) = omega (arith, from) in

@@ -1,11 +1,11 @@
 // What is remembered of pages while the mode, the CSRs and the map stay as they are: where a page of a load, a store, a push or a pop-check lies in
 // memory. What is remembered includes the judgement: a page is remembered only where such an access has a place, and its frame lies in memory whole.
 //
-// A pair of words for a page: its first address, and the index of its first byte. The first 64 pairs are for loads, then stores, pushes and
-// pop-checks, 64 each, by the page's number. An empty pair has 8 for an address, which is no address of a page, nor near one as the test below asks.
+// The first 64 pages are for the first kind of access, the next 64 for the next, and so on, each by its number in the map. Nothing is remembered of
+// fetches and swaps, whose pages stay empty: so a kind is its own place.
 #![tactic(auto)]
 
-ghost use Rattle.std.specs.Prelude.{true, false, ◌≡◌, ◌+◌, ◌/◌, ◌^◌, ◌<◌, ◌≤◌, length};
+ghost use Rattle.std.specs.Prelude.{◌≡◌, IfSome, ◌+◌, ◌/◌, ◌^◌, ◌<◌, ◌≤◌, length};
 ghost use Rattle.address_place.specs.Place.{base, place_of};
 ghost use Rattle.address_place.specs.declared.Place.TheVariants.{At};
 ghost use Rattle.run_pages.specs.Pages.{kind_at, Remembers};
@@ -15,33 +15,22 @@ use address::control::Control;
 use address_place::{Place, steps};
 use isa::{Kind, Width, size};
 
-// Two words for each of the 4 times 64 pages.
-pub const COUNT: usize = 512;
+// Of 6 kinds of accesses, 64 pages each.
+pub const COUNT: usize = 384;
 
-// The index of an access's first byte, if it has a place.
+// A page's first address, and the index of its first byte.
 #[derive(Clone, Copy)]
-pub struct Sought {
-    pub found: bool,
+pub struct Page {
+    pub first: u64,
     pub at: usize,
 }
 
-// The checker knows an array's length where it is passed by value, and not behind a reference. Nothing is left of this when it is compiled.
-fn sized(ps: [u64; COUNT])
-    ensures { length ps ≡ 512 }
-{}
+// Nothing is remembered: no page begins at 8, nor is an address near it as the test in `seek` asks.
+pub const EMPTY: Page = Page { first: 8, at: 0 };
 
-fn nowhere() -> Sought
-    ensures { result.found ≡ false }
-{
-    Sought {
-        found: false,
-        at: 0,
-    }
-}
-
-// The page of address a, remembered in the pair at j, if an access to its first address has a place and its frame lies in memory whole.
-fn remember(ps: &mut [u64; COUNT], j: usize, k: Kind, a: u64, c: Control, mem: &[u8], map: &[u64])
-    requires { (length mem.now ≤ 2 ^ 20) × (j < 256) × (kind_at (j / 64) ≡ k)
+// The page of address a, remembered at j, if an access to its first address has a place and its frame lies in memory whole.
+fn remember(ps: &mut [Page; COUNT], j: usize, k: Kind, a: u64, c: Control, mem: &[u8], map: &[u64])
+    requires { (length mem.now ≤ 2 ^ 20) × (j < 384) × (kind_at (j / 64) ≡ k)
         × Remembers ps.old c map.now (length mem.now) }
     ensures { Remembers ps.new c map.now (length mem.now) }
 {
@@ -50,10 +39,7 @@ fn remember(ps: &mut [u64; COUNT], j: usize, k: Kind, a: u64, c: Control, mem: &
         Place::At(q) => {
             let at = q.index();
             if at + 4096 <= mem.len() {
-                sized(*ps);
-                ps[j * 2] = low;
-                ps[j * 2 + 1] = at as u64;
-                return;
+                ps[j] = Page { first: low, at };
             }
         }
         Place::Fault(_, _) => {}
@@ -62,7 +48,7 @@ fn remember(ps: &mut [u64; COUNT], j: usize, k: Kind, a: u64, c: Control, mem: &
 
 // The place by the nine steps; the page is remembered for the next access.
 fn find(
-    ps: &mut [u64; COUNT],
+    ps: &mut [Page; COUNT],
     j: usize,
     k: Kind,
     n: Width,
@@ -70,43 +56,37 @@ fn find(
     c: Control,
     mem: &[u8],
     map: &[u64],
-) -> Sought
-    requires { (length mem.now ≤ 2 ^ 20) × (j < 256) × (kind_at (j / 64) ≡ k)
+) -> Option<usize>
+    requires { (length mem.now ≤ 2 ^ 20) × (j < 384) × (kind_at (j / 64) ≡ k)
         × Remembers ps.old c map.now (length mem.now) }
-    ensures place { result.found ≡ true → place_of c k n a map.now (length mem.now) ≡ At (record { 0 = base + result.at }) }
+    ensures place { IfSome result (λ at. place_of c k n a map.now (length mem.now) ≡ At (record { 0 = base + at })) }
     ensures pages { Remembers ps.new c map.now (length mem.now) }
 {
     remember(ps, j, k, a, c, mem, map);
     match steps::translate(c, k, n, Virtual(a), map, mem) {
-        Place::At(q) => Sought {
-            found: true,
-            at: q.index(),
-        },
-        Place::Fault(_, _) => nowhere(),
+        Place::At(q) => Some(q.index()),
+        Place::Fault(_, _) => None,
     }
 }
 
-// The place of an access of kind k, whose pairs are those of number `group`. One test asks for the page and for alignment.
+// The place of an access of kind k. One test asks for the page and for alignment.
 pub fn seek(
-    ps: &mut [u64; COUNT],
-    group: u64,
+    ps: &mut [Page; COUNT],
     k: Kind,
     n: Width,
     a: u64,
     c: Control,
     mem: &[u8],
     map: &[u64],
-) -> Sought
-    requires { (length mem.now ≤ 2 ^ 20) × (group < 4) × (kind_at group ≡ k) × Remembers ps.old c map.now (length mem.now) }
-    ensures place { result.found ≡ true → place_of c k n a map.now (length mem.now) ≡ At (record { 0 = base + result.at }) }
+) -> Option<usize>
+    requires { (length mem.now ≤ 2 ^ 20) × Remembers ps.old c map.now (length mem.now) }
+    ensures place { IfSome result (λ at. place_of c k n a map.now (length mem.now) ≡ At (record { 0 = base + at })) }
     ensures pages { Remembers ps.new c map.now (length mem.now) }
 {
-    let j = (group * 64 + a / 4096 % 64) as usize;
-    if ps[j * 2] == a - a % 4096 + a % size::bytes(n) {
-        return Sought {
-            found: true,
-            at: (ps[j * 2 + 1] + a % 4096) as usize,
-        };
+    let j = k as usize * 64 + (a / 4096 % 64) as usize;
+    let page = &ps[j];
+    if page.first == a - a % 4096 + a % size::bytes(n) {
+        return Some(page.at + (a % 4096) as usize);
     }
     find(ps, j, k, n, a, c, mem, map)
 }

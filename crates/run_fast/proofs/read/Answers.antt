@@ -21,5 +21,5 @@ word-requires c =
 pub returns-in-At : goal.returns-in-At
 returns-in-At c =
     let a = c.args in
-    λ e. found c.of_word-f.result c.index-at.result c.word.result a.pc a.s a.mem.now a.map.now c.in-At.q
-    (sym c.fetch.ensures ∙ c.in-At.is) c.index-at.ensures c.requires c.word.ensures c.of_word-f.ensures.means c.of_word-f.ensures.small
+    found c.of_word-form.result c.index-at.result c.word.result a.pc a.s a.mem.now a.map.now c.in-At.q
+    (sym c.fetch.ensures ∙ c.in-At.is) c.index-at.ensures c.requires c.word.ensures c.of_word-form.ensures.means c.of_word-form.ensures.small

@@ -10,10 +10,7 @@ index-requires c =
     let a = c.args in
     (place_within a.c a.k a.n a.a a.map.now (length a.mem.now) c.in-At.q (sym c.translate.ensures ∙ c.in-At.is)).0
 
-pub returns-in-At : goal.returns-in-At
-returns-in-At c =
-    let a = c.args in record {
-      place = λ e. at_index a.c a.k a.n a.a a.map.now (length a.mem.now) c.in-At.q c.index.result
-          (sym c.translate.ensures ∙ c.in-At.is) c.index.ensures;
-      pages = c.remember.ensures;
-    }
+pub returns-in-At-clause-place : goal.returns-in-At-clause-place
+returns-in-At-clause-place c =
+    let a = c.args in
+    at_index a.c a.k a.n a.a a.map.now (length a.mem.now) c.in-At.q c.index.result (sym c.translate.ensures ∙ c.in-At.is) c.index.ensures

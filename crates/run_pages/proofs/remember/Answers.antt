@@ -18,5 +18,5 @@ pub returns-then-at-mem : goal.returns-then-at-mem
 returns-then-at-mem c =
     let q = c.in-At.q in
     let a = c.args in
-    remembered a.ps.now a.c a.map.now (length a.mem.now) a.j (a.a - a.a % 4096) c.index-at.result c.sized.ensures c.requires.1
+    remembered a.ps.now a.c a.map.now (length a.mem.now) a.j (a.a - a.a % 4096) c.index-at.result c.told-ps c.requires.1
     a.k q c.requires.2 (sym c.in-At.ensures) (omega arith) c.index-at.ensures c.if-at-mem.true c.requires.3

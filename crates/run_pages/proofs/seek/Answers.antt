@@ -3,36 +3,39 @@ use mathlib.Core.Path.{◌≡◌}
 use Prim.Native.Nat.{ℕ, ◌+◌, ◌*◌, ◌/◌, ◌%◌, ◌≤◌}
 use native.Mathlib.Omega.{arith}
 use lib.ListN.{get_or, length}
+use denote.Enum.Declared.{tag_of}
+use Rattle.isa.specs.contracts.Kind.{the_type}
 use Rattle.address_place.specs.Place.{base, place_of}
 use Rattle.address_place.specs.declared.Place.TheVariants.{At}
-use Rattle.run_pages.proofs.Kept.{recalled, in_group}
+use Rattle.run_pages.specs.declared.Page.{Page}
+use Rattle.run_pages.proofs.Kept.{recalled, of_kind}
 use Rattle.run_pages.proofs.seek.Goals as goal
-use Rattle.run_pages.proofs.seek.Goals.{Then-ps-j}
+use Rattle.run_pages.proofs.seek.Goals.{Then-page-a}
 
 -- a page that is remembered
-module _ (c : Then-ps-j) where
+module _ (c : Then-page-a) where
   abbrev a : ℕ
   a = c.args.a
 
   abbrev j : ℕ
-  j = c.args.group * 64 + a / 4096 % 64
+  j = tag_of the_type c.args.k * 64 + a / 4096 % 64
 
-  abbrev at : ℕ
-  at = get_or c.args.ps.now (j * 2 + 1) 0 + a % 4096
+  abbrev page : Page
+  page = get_or c.args.ps.now j (record { first = 0; at = 0 })
 
   abbrev len : ℕ
   len = length c.args.mem.now
 
-  hit : (at ≤ len) × (place_of c.args.c c.args.k c.args.n a c.args.map.now len ≡ At (record { 0 = base + at }))
+  hit : (page.at + a % 4096 ≤ len) × (place_of c.args.c c.args.k c.args.n a c.args.map.now len ≡ At (record { 0 = base + (page.at + a % 4096) }))
   hit =
-      let g = in_group c.args.group (a / 4096 % 64) c.args.k c.requires.1 (omega arith) c.requires.2 in
+      let g = of_kind c.args.k (a / 4096 % 64) (omega arith) in
       recalled c.args.c c.args.k c.args.n a c.args.map.now len c.args.ps.now j
-      c.bytes.result c.requires.3 g.0 g.1 (omega arith) c.bytes.ensures.0 c.if-ps-j.true
+      c.bytes.result c.requires.1 g.0 g.1 (omega arith) c.bytes.ensures.0 c.if-page-a.true
 
-pub overflow_add-result-then-ps-j : goal.overflow_add-result-then-ps-j
-overflow_add-result-then-ps-j c =
-    let h = (hit ((goal.at.overflow_add-result-then-ps-j c).Then-ps-j)).0 in
+pub overflow_add-result : goal.overflow_add-result
+overflow_add-result c =
+    let h = (hit ((goal.at.overflow_add-result c).Then-page-a)).0 in
     record { fits = omega (arith, h, c.requires.0) }
 
-pub returns-then-ps-j-clause-place : goal.returns-then-ps-j-clause-place
-returns-then-ps-j-clause-place c = λ e. (hit ((goal.at.returns-then-ps-j-clause-place c).Then-ps-j)).1
+pub returns-then-page-a-clause-place : goal.returns-then-page-a-clause-place
+returns-then-page-a-clause-place c = (hit ((goal.at.returns-then-page-a-clause-place c).Then-page-a)).1
