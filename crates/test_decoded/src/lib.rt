@@ -2,25 +2,24 @@
 // writing these gives, 0 where they are refused; vectors/decode.py writes the same numbers.
 #![tactic(auto)]
 
-ghost use Rattle.std.specs.Prelude.{◌≤◌};
-
 use decode::decode;
 use decode_numbers::{Eight, of_instruction};
 use decode_writer::{Written, write_numbers};
-use isa::Instruction;
-use test_lines::line::MOST;
-use test_lines::row;
 
 fn written(n: Eight) -> u64 {
     match write_numbers(n) {
-        Written::Word(w) => w as u64,
+        Written::Word(w) => u64::from(w),
         Written::Refused => 0,
     }
 }
 
-fn shown(i: Instruction) -> [u64; 9] {
-    let n = of_instruction(i);
-    [
+// What comes of a case; nothing where the given numbers are none of such a case.
+pub fn run(given: &[u64]) -> Option<[u64; 9]> {
+    let [word] = given else {
+        return None;
+    };
+    let n = of_instruction(decode(u32::try_from(*word).ok()?));
+    Some([
         n.family,
         n.operation,
         n.rd,
@@ -30,20 +29,5 @@ fn shown(i: Instruction) -> [u64; 9] {
         n.first,
         n.second,
         written(n),
-    ]
-}
-
-pub fn run(n: &[u64], got: &mut [u64; MOST]) -> usize
-    ensures { result ≤ 9 }
-{
-    let word = row::at(n, 0);
-    if n.len() != 1 {
-        return 0;
-    }
-    if word > 0xffff_ffff {
-        return 0;
-    }
-    let numbers = shown(decode(word as u32));
-    row::copy(got, 0, &numbers);
-    9
+    ])
 }
