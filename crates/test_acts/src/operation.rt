@@ -5,6 +5,8 @@
 // 7 whether a swap may be executed, 8 the pad enable, 9 the regime of an access. An argument that an operation does not have is 0. The
 // wanted numbers are 1 for illegal or refused, the value that comes out (an enable's is 1 where it is on),
 // and the hart after it.
+ghost use Rattle.std.specs.Prelude.{◌≡◌, OnOk, length};
+
 use super::state;
 use address::{control, mask};
 use csr::Csr;
@@ -99,7 +101,9 @@ impl Operation {
     }
 }
 
-pub fn run(given: &[u64]) -> Result<[u64; 54], CaseError> {
+pub fn run(given: &[u64]) -> Result<[u64; 54], CaseError>
+    ensures { OnOk result (length given.now ≡ 55) }
+{
     let [operation, first, second, hart @ ..] = given else {
         return Err(CaseError::Given);
     };

@@ -5,6 +5,8 @@
 // `test_scene` says. The wanted ones are refusal, count, whether it trapped, cause, the hart, and pairs for what has changed in memory.
 #![tactic(auto)]
 
+ghost use Rattle.std.specs.Prelude.{◌≤◌, OnOk, length};
+
 use run_call::Answer;
 use std::alloc::Global;
 use step_hart::Hart;
@@ -72,7 +74,9 @@ fn joined(answer: &[u64; ANSWER], memory: [u64; 2]) -> [u64; COMPARED] {
 }
 
 // What comes of a case, and what is to come of it by its wanted numbers.
-pub fn run(alloc: Global, given: &[u64], wanted: &[u64]) -> Result<Compared, CaseError> {
+pub fn run(alloc: Global, given: &[u64], wanted: &[u64]) -> Result<Compared, CaseError>
+    ensures { OnOk result (56 ≤ length wanted.now) }
+{
     let [call, argument, scene @ ..] = given else {
         return Err(CaseError::Given);
     };

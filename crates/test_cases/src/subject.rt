@@ -1,5 +1,5 @@
 // What the cases of a file are about, and what comes of one.
-ghost use Rattle.std.specs.Prelude.{◌≡◌};
+ghost use Rattle.std.specs.Prelude.{◌≡◌, IfOk, vec_len};
 ghost use Rattle.test_lines.specs.Counted.{one_more_of};
 
 use std::alloc::Global;
@@ -43,7 +43,9 @@ fn listed<const N: usize>(alloc: Global, came: Option<[u64; N]>) -> Result<Vec<u
 }
 
 // A call has pairs for memory among its wanted numbers, and two numbers of its own are compared.
-fn called(alloc: Global, line: &Line) -> Result<Came, CaseError> {
+fn called(alloc: Global, line: &Line) -> Result<Came, CaseError>
+    ensures { IfOk result (λ came. vec_len came.wanted ≡ vec_len came.got) }
+{
     let compared = test_calls::run(alloc, &line.given, &line.wanted)?;
     Ok(Came {
         wanted: compared.wanted.to_vec(alloc)?,
@@ -53,7 +55,9 @@ fn called(alloc: Global, line: &Line) -> Result<Came, CaseError> {
 
 impl Subject {
     // Runs a case.
-    pub fn came(self, alloc: Global, line: &Line) -> Result<Came, CaseError> {
+    pub fn came(self, alloc: Global, line: &Line) -> Result<Came, CaseError>
+        ensures { IfOk result (λ came. vec_len came.wanted ≡ vec_len came.got) }
+    {
         let given = line.given.as_slice();
         let got = match self {
             Subject::Decode => listed(alloc, test_decoded::run(given))?,

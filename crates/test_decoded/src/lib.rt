@@ -2,6 +2,8 @@
 // writing these gives, 0 where they are refused; vectors/decode.py writes the same numbers.
 #![tactic(auto)]
 
+ghost use Rattle.std.specs.Prelude.{◌≡◌, ◌<◌, ◌^◌, ◌↔◌, IsSome, length, slice_index};
+
 use decode::decode;
 use decode_numbers::{Eight, of_instruction};
 use decode_writer::{Written, write_numbers};
@@ -14,7 +16,9 @@ fn written(n: Eight) -> u64 {
 }
 
 // What comes of a case; nothing where the given numbers are none of such a case.
-pub fn run(given: &[u64]) -> Option<[u64; 9]> {
+pub fn run(given: &[u64]) -> Option<[u64; 9]>
+    ensures { IsSome result ↔ ((length given.now ≡ 1) × (slice_index given.now 0 < 2 ^ 32)) }
+{
     let [word] = given else {
         return None;
     };

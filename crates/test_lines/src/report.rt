@@ -80,7 +80,9 @@ impl<'a, R: Print> Report<'a, R> {
     }
 
     // A heading or an empty line: printed as it is, and no case.
-    pub fn heading(&self, line: &str) {
+    pub fn heading(&mut self, line: &str)
+        ensures { self.new.counts ≡ self.old.counts }
+    {
         let _ = println!(self.rt; "{line}");
     }
 
@@ -131,8 +133,11 @@ impl<'a, R: Print> Report<'a, R> {
     }
 
     // The last line.
-    pub fn total(&self) {
+    pub fn total(&self) -> Counts
+        ensures { result ≡ self.now.counts }
+    {
         let Counts { cases, failed } = self.counts;
         let _ = println!(self.rt; "{cases} cases, {failed} failed");
+        self.counts
     }
 }

@@ -1,5 +1,5 @@
 // A lap: a program in memory, run until it traps, a million steps at a time, and how it ended.
-ghost use Rattle.std.specs.Prelude.{◌≡◌, length, get_or, replicate};
+ghost use Rattle.std.specs.Prelude.{◌≡◌, ◌≤◌, length, get_or, replicate};
 
 use csr_words::COUNT;
 use step_hart::Hart;
@@ -78,7 +78,8 @@ fn doubles(mem: &[u8], from: usize) -> [u64; 4] {
 impl Lap {
     // Runs until one traps.
     fn chained(&self, mem: &mut [u8]) -> End
-        ensures { length mem.new ≡ length mem.old }
+        ensures len { length mem.new ≡ length mem.old }
+        ensures runs { result.runs ≤ 8 }
     {
         let mut hart = self.start;
         let mut steps = 0u64;
@@ -105,7 +106,9 @@ impl Lap {
         }
     }
 
-    pub fn run(&self) -> End {
+    pub fn run(&self) -> End
+        ensures { result.runs ≤ 8 }
+    {
         let mut mem = [0u8; MEMORY];
         write(&mut mem, self.code);
         self.chained(&mut mem)

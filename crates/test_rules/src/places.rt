@@ -5,7 +5,7 @@
 // 1 S, 3 M), MPRV, MPP, whether satp says Sv39, SUM, MXR, menvcfg.SSE, the PMM of senvcfg, menvcfg and
 // mseccfg, the address, the length of memory, and the words of the map. The wanted ones are 0, the
 // physical address and 0, or 1, the cause and tval.
-ghost use Rattle.std.specs.Prelude.{◌≡◌, ◌<◌, ◌↔◌, IfSome, IsNone};
+ghost use Rattle.std.specs.Prelude.{◌≡◌, ◌<◌, ◌≤◌, ◌↔◌, IfSome, OnSome, IsNone, OnOk, length};
 ghost use Rattle.test_rules.specs.Kinds.{case_kind_of};
 
 use super::{flag, width};
@@ -66,7 +66,9 @@ fn pmm(n: u64) -> Option<u8> {
     }
 }
 
-fn read(given: &[u64]) -> Option<Access<'_>> {
+fn read(given: &[u64]) -> Option<Access<'_>>
+    ensures { OnSome result (14 ≤ length given.now) }
+{
     let [
         access,
         bytes,
@@ -116,7 +118,9 @@ fn shown(p: Place) -> [u64; 3] {
     }
 }
 
-pub fn run(alloc: Global, given: &[u64]) -> Result<[u64; 3], CaseError> {
+pub fn run(alloc: Global, given: &[u64]) -> Result<[u64; 3], CaseError>
+    ensures { OnOk result (14 ≤ length given.now) }
+{
     let Access {
         kind,
         width,

@@ -5,7 +5,7 @@
 // leaf), how many words of the map follow, those words, and the pairs of memory's content (module `content`).
 #![tactic(auto)]
 
-ghost use Rattle.std.specs.Prelude.{◌≤◌, vec_len};
+ghost use Rattle.std.specs.Prelude.{◌≡◌, ◌<◌, ◌≤◌, IfOk, OnOk, IfSome, IsNone, get_or, length, vec_len};
 ghost use Rattle.test_lines.specs.Most.{most};
 
 use std::alloc::Global;
@@ -49,7 +49,9 @@ pub struct Difference {
 }
 
 impl<'a> Scene<'a> {
-    pub fn read(alloc: Global, given: &'a [u64]) -> Result<Scene<'a>, CaseError> {
+    pub fn read(alloc: Global, given: &'a [u64]) -> Result<Scene<'a>, CaseError>
+        ensures { OnOk result (57 ≤ length given.now) }
+    {
         let (len, given) = given.split_first().ok_or(CaseError::Given)?;
         let (hart, given) = given.split_first_chunk().ok_or(CaseError::Given)?;
         let [made, page, leaf, words, given @ ..] = given else {
@@ -71,7 +73,9 @@ impl<'a> Scene<'a> {
     }
 
     // Memory before the call, with what is changed in it.
-    pub fn memory(&self, alloc: Global, changed: &[u64]) -> Result<Vec<u8>, CaseError> {
+    pub fn memory(&self, alloc: Global, changed: &[u64]) -> Result<Vec<u8>, CaseError>
+        ensures { IfOk result (λ mem. vec_len mem ≡ self.now.len) }
+    {
         let mut mem = vec![in alloc; 0u8; self.len]?;
         content::fill(&mut mem, self.content).ok_or(CaseError::Given)?;
         content::fill(&mut mem, changed).ok_or(CaseError::Given)?;
@@ -80,7 +84,9 @@ impl<'a> Scene<'a> {
 }
 
 // The first byte of memory that is not as it is to be.
-pub fn first_difference(found: &[u8], wanted: &[u8]) -> Option<Difference> {
+pub fn first_difference(found: &[u8], wanted: &[u8]) -> Option<Difference>
+    ensures { IfSome result (λ d. d.offset < length found.now) }
+{
     let mut bytes = found.iter().zip(wanted).enumerate();
     let (offset, (found, wanted)) = bytes.find(|(_, (found, wanted))| found != wanted)?;
     Some(Difference {
@@ -91,7 +97,10 @@ pub fn first_difference(found: &[u8], wanted: &[u8]) -> Option<Difference> {
 }
 
 // What is wrong in memory as two numbers, the wanted ones and those that came: nothing is to be wrong.
-pub fn told(difference: Option<Difference>) -> ([u64; 2], [u64; 2]) {
+pub fn told(difference: Option<Difference>) -> ([u64; 2], [u64; 2])
+    ensures right { IsNone difference → result.0 ≡ result.1 }
+    ensures wrong { IfSome difference (λ d. get_or result.1 0 0 ≡ d.offset) }
+{
     match difference {
         Some(d) => (
             [NOWHERE, u64::from(d.wanted)],
