@@ -36,7 +36,7 @@ from hart import FIELDS, PARTS, START, with_settings
 from manifest import LARGEST, Wrong, choice, hexadecimal, number, parts, said
 from place import entries
 
-# What the program has room for: crates/test_lines/src/line.rt, crates/test_calls/src/lib.rt (`room`, twice a memory) and crates/test_scene/src/lib.rt.
+# What the program has room for: crates/test_lines/src/line.rt and file.rt (`LONGEST`), and crates/test_scene/src/lib.rt.
 MOST_NUMBERS, MOST_BYTES, MOST_MADE, MOST_WORDS, MOST_MEMORY = 192, 2105344, 66, 28, 1052672
 FIRST_ADDRESS = 0x80000000
 CALLS = {"step": 0, "word": 1, "run": 2}

@@ -5,68 +5,59 @@
 // 7 whether a swap may be executed, 8 the pad enable, 9 the regime of an access. An argument that an operation does not have is 0. The
 // wanted numbers are 1 for illegal or refused, the value that comes out (an enable's is 1 where it is on),
 // and the hart after it.
-ghost use Rattle.std.specs.Prelude.{◌≤◌};
+ghost use Rattle.std.specs.Prelude.{◌≡◌, OnOk, length};
 
 use super::state;
 use address::{control, mask};
 use csr::Csr;
 use csr_setting::{Setting, reach};
 use csr_words::{MENVCFG, MODE, SENVCFG, setting};
+use isa::Kind;
 use step_hart::Hart;
-use test_lines::line::MOST;
-use test_lines::row;
+use test_lines::case::CaseError;
 use test_rules::places;
 
-// How many numbers are given: the operation, its two arguments and a hart.
-const GIVEN: usize = 55;
-
-// What came of an operation: whether it is illegal or refused, a value, and the hart.
 #[derive(Clone, Copy)]
-struct Came {
-    no: bool,
-    value: u64,
-    hart: Hart,
+enum Operation {
+    Read(u16),
+    Write(u16, u64),
+    Legal,
+    Trap(u64, u64),
+    Mret,
+    Sret,
+    Shadow,
+    Swap,
+    Pad,
+    Regime(Kind),
 }
 
-fn value(v: u64, hart: Hart) -> Came {
-    Came {
-        no: false,
-        value: v,
-        hart,
+// By its number and its two arguments. The address of a CSR is one that an instruction can have.
+impl TryFrom<[u64; 3]> for Operation {
+    type Error = CaseError;
+
+    fn try_from(numbers: [u64; 3]) -> Result<Operation, CaseError> {
+        match numbers {
+            [0, address @ 0..=0xfff, _] => Ok(Operation::Read(address as u16)),
+            [1, address @ 0..=0xfff, value] => Ok(Operation::Write(address as u16, value)),
+            [2, _, _] => Ok(Operation::Legal),
+            [3, cause, tval] => Ok(Operation::Trap(cause, tval)),
+            [4, _, _] => Ok(Operation::Mret),
+            [5, _, _] => Ok(Operation::Sret),
+            [6, _, _] => Ok(Operation::Shadow),
+            [7, _, _] => Ok(Operation::Swap),
+            [8, _, _] => Ok(Operation::Pad),
+            [9, kind, _] => {
+                let kind = places::kind(kind).ok_or(CaseError::Given)?;
+                Ok(Operation::Regime(kind))
+            }
+            _ => Err(CaseError::Given),
+        }
     }
 }
 
-// An enable, which is on or off.
-fn switch(on: bool, hart: Hart) -> Came {
-    if on { value(1, hart) } else { value(0, hart) }
-}
-
-// Whether it is legal.
-fn verdict(legal: bool, hart: Hart) -> Came {
-    Came {
-        no: !legal,
-        value: 0,
-        hart,
-    }
-}
-
-fn reached(h: Hart, address: u64) -> Option<Csr> {
+fn reached(h: Hart, address: u16) -> Option<Csr> {
     let w = h.words;
-    reach::reached(w[MODE], w[MENVCFG], w[SENVCFG], (address % 0x1000) as u16)
-}
-
-fn read(h: Hart, address: u64) -> Came {
-    match reached(h, address) {
-        Some(n) => value(h.csr_read(n), h),
-        None => verdict(false, h),
-    }
-}
-
-fn write(h: Hart, address: u64, v: u64) -> Came {
-    match reached(h, address) {
-        Some(n) => value(0, h.csr_write(n, v)),
-        None => verdict(false, h),
-    }
+    reach::reached(w[MODE], w[MENVCFG], w[SENVCFG], address)
 }
 
 fn says(h: Hart) -> Setting {
@@ -74,73 +65,50 @@ fn says(h: Hart) -> Setting {
     setting::setting(&w)
 }
 
-fn counted(b: bool, n: u64) -> u64
-    ensures { result ≤ n }
-{
-    if b { n } else { 0 }
-}
-
 // The regime of an access of a kind: the effective mode, and 4 where Sv39 is in force, 8 for SUM, 16 for MXR, 32
 // for menvcfg.SSE, and 64 times the masked bits.
-fn regime(h: Hart, kind: u64) -> Came {
+fn regime(h: Hart, kind: Kind) -> u64 {
     let g = says(h).control;
-    let m = control::effective(g, places::kind(kind));
-    let low = u64::from(m) + counted(control::paged(g, m), 4);
-    let bits = counted(g.sum, 8) + counted(g.mxr, 16) + counted(g.sse, 32);
-    value(low + bits + mask::pmlen(control::pmm(g, m)) * 64, h)
+    let m = control::effective(g, kind);
+    u64::from(m)
+        + 4 * u64::from(control::paged(g, m))
+        + 8 * u64::from(g.sum)
+        + 16 * u64::from(g.mxr)
+        + 32 * u64::from(g.sse)
+        + 64 * mask::pmlen(control::pmm(g, m))
 }
 
-fn done(operation: u64, first: u64, second: u64, h: Hart) -> Came {
-    match operation {
-        0 => read(h, first),
-        1 => write(h, first, second),
-        2 => verdict(h.legal(), h),
-        3 => value(0, h.trap(first, second)),
-        4 => value(0, h.mret()),
-        5 => value(0, h.sret()),
-        6 => switch(says(h).shadow, h),
-        7 => verdict(says(h).permitted, h),
-        8 => switch(says(h).pad, h),
-        _ => regime(h, first),
+impl Operation {
+    // The value that comes out, and the hart after it; nothing where it is illegal or refused.
+    fn done(self, h: Hart) -> Option<(u64, Hart)> {
+        match self {
+            Operation::Read(address) => Some((h.csr_read(reached(h, address)?), h)),
+            Operation::Write(address, v) => Some((0, h.csr_write(reached(h, address)?, v))),
+            Operation::Legal => h.legal().then_some((0, h)),
+            Operation::Trap(cause, tval) => Some((0, h.trap(cause, tval))),
+            Operation::Mret => Some((0, h.mret())),
+            Operation::Sret => Some((0, h.sret())),
+            Operation::Shadow => Some((u64::from(says(h).shadow), h)),
+            Operation::Swap => says(h).permitted.then_some((0, h)),
+            Operation::Pad => Some((u64::from(says(h).pad), h)),
+            Operation::Regime(kind) => Some((regime(h, kind), h)),
+        }
     }
 }
 
-// What the first argument of an operation can be at most: an address one that an instruction can have, a kind of access one.
-fn most(operation: u64) -> u64 {
-    match operation {
-        0 => 0xfff,
-        1 => 0xfff,
-        9 => 5,
-        _ => 0xffff_ffff_ffff_ffff,
-    }
-}
-
-// Whether the operation is one, and its first argument one that it can have.
-fn known(n: &[u64]) -> bool {
-    let operation = row::at(n, 0);
-    operation <= 9 && row::at(n, 1) <= most(operation)
-}
-
-// Puts what came into a row, to be held against the wanted numbers.
-fn shown(came: Came, got: &mut [u64; MOST]) {
-    if came.no {
-        row::put(&mut *got, 0, 1);
-    }
-    row::put(&mut *got, 1, came.value);
-    let h = came.hart;
-    state::shown(h, got, 2);
-}
-
-pub fn run(n: &[u64], got: &mut [u64; MOST]) -> usize
-    ensures { result ≤ 54 }
+pub fn run(given: &[u64]) -> Result<[u64; 54], CaseError>
+    ensures { OnOk result (length given.now ≡ 55) }
 {
-    if n.len() != GIVEN {
-        return 0;
-    }
-    if !known(n) {
-        return 0;
-    }
-    let h = state::given(n);
-    shown(done(row::at(n, 0), row::at(n, 1), row::at(n, 2), h), got);
-    54
+    let [operation, first, second, hart @ ..] = given else {
+        return Err(CaseError::Given);
+    };
+    let operation = Operation::try_from([*operation, *first, *second])?;
+    let hart = state::given(hart.as_array().ok_or(CaseError::Given)?);
+    let done = operation.done(hart);
+    let (value, after) = done.unwrap_or((0, hart));
+    let mut numbers = [0u64; 54];
+    numbers[0] = u64::from(done.is_none());
+    numbers[1] = value;
+    numbers[2..].copy_from_slice(&state::numbers(after));
+    Ok(numbers)
 }

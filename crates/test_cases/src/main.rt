@@ -1,139 +1,93 @@
 // Runs the files of cases and prints a line for each case, and the counts.
 //
-// A file of another kind of case gets a line in `main`, with a letter, which gets an arm in `test_acts::subject`, and a module with a
-// `run` of its own (crates `test_rules`, `test_hexed` and `test_acts`).
+// A file of another kind of case gets a line in `FILES`, with a subject (module `subject`), which gets an arm in `Subject::came`, and a
+// module with a `run` of its own (crates `test_rules`, `test_hexed` and `test_acts`).
 #![tactic(auto)]
 
-ghost use Rattle.std.specs.Prelude.{◌≤◌, length};
-ghost use Rattle.test_lines.specs.Most.{most};
+ghost use Rattle.std.specs.Prelude.{◌≡◌};
+ghost use Rattle.test_lines.specs.Counted.{one_more_of};
 
+use std::alloc::Global;
 use std::rt::Files;
-use test_acts::subject;
-use test_lines::file::End;
-use test_lines::line::{Fault, Line, MOST};
-use test_lines::report::Counts;
-use test_lines::{file, line, report, row};
+use subject::Subject;
+use test_lines::report::Report;
+use test_lines::{file, line};
 
-// Runs a case: puts what came of it into a row of zeros, and answers how many numbers these are. The wanted numbers stand in their
-// row already; a call adds to them.
-fn came(
-    letter: u8,
-    given: &[u64],
-    right: &[u64],
-    wanted: &mut [u64; MOST],
-    got: &mut [u64; MOST],
-) -> usize
-    ensures { result ≤ most }
+// What the cases of a file are about.
+mod subject;
+
+const FILES: [(Subject, &str); 22] = [
+    (Subject::Decode, "decode.txt"),
+    (Subject::Mask, "mask.txt"),
+    (Subject::Place, "place.txt"),
+    (Subject::Bytes, "bytes.txt"),
+    (Subject::Refused, "refused.txt"),
+    (Subject::Hex, "hex.txt"),
+    (Subject::Hart, "access.txt"),
+    (Subject::Hart, "csr.txt"),
+    (Subject::Hart, "enable.txt"),
+    (Subject::Hart, "regime.txt"),
+    (Subject::Hart, "legal.txt"),
+    (Subject::Hart, "trap.txt"),
+    (Subject::Hart, "returns.txt"),
+    (Subject::Call, "instruction.txt"),
+    (Subject::Call, "control.txt"),
+    (Subject::Call, "shadow.txt"),
+    (Subject::Call, "pad.txt"),
+    (Subject::Call, "fault.txt"),
+    (Subject::Call, "run.txt"),
+    (Subject::Call, "refusal.txt"),
+    (Subject::Call, "program.txt"),
+    (Subject::Call, "arithmetic.txt"),
+];
+
+// A line that is to have a case.
+fn judge<R: Print>(alloc: Global, report: &mut Report<R>, subject: Subject, source: &str)
+    ensures { report.new.counts.cases ≡ one_more_of report.old.counts.cases }
 {
-    if letter == b'C' {
-        return test_calls::run(given, right, wanted, got);
-    }
-    subject::came(letter, given, got)
-}
-
-// A case with its given and its wanted numbers.
-fn tried(
-    rt: &impl Print,
-    letter: u8,
-    c: Counts,
-    s: &[u8],
-    at: Line,
-    given: &[u64],
-    right: &[u64],
-) -> Counts
-    requires { (at.equals ≤ length s.now) × (at.text ≤ length s.now) }
-{
-    let mut wanted = [0u64; MOST];
-    let mut got = [0u64; MOST];
-    row::copy(&mut wanted, 0, right);
-    let count = came(letter, given, right, &mut wanted, &mut got);
-    subject::told(rt, letter, c, s, at, right.len(), &wanted, &got, count)
-}
-
-// A line whose numbers were read.
-fn run(rt: &impl Print, letter: u8, c: Counts, s: &[u8], at: Line, numbers: &[u64; MOST]) -> Counts
-    requires given_le_count { (at.given ≤ at.count) × (at.count ≤ most) }
-    requires equals_in_bounds { (at.equals ≤ length s.now) × (at.text ≤ length s.now) }
-{
-    let start = at.given;
-    let end = at.count;
-    let all = &numbers[..];
-    tried(rt, letter, c, s, at, &all[0..start], &all[start..end])
-}
-
-// One line, without its line feed.
-fn judge(rt: &impl Print, letter: u8, c: Counts, s: &[u8]) -> Counts {
-    if s.len() == 0 {
-        return report::heading(rt, c, s);
-    }
-    if s[0] == b'#' {
-        return report::heading(rt, c, s);
-    }
-    let mut numbers = [0u64; MOST];
-    let at = line::read(s, &mut numbers);
-    let fault = at.fault;
-    if let Fault::Nothing = fault {
-        run(rt, letter, c, s, at, &numbers)
-    } else {
-        report::malformed(rt, c, s, fault)
-    }
-}
-
-fn every_line(rt: &impl Print, letter: u8, c: Counts, s: &[u8]) -> Counts {
-    let mut counts = c;
-    let mut at = 0;
-    while at < s.len() {
-        let end = line::end(s, at);
-        counts = judge(rt, letter, counts, &s[at..end]);
-        at = end + 1;
-    }
-    counts
-}
-
-// A file, read into this room.
-fn within(
-    rt: &(impl Files + Print),
-    letter: u8,
-    c: Counts,
-    name: &[u8],
-    room: &mut [u8],
-) -> Counts {
-    let read = file::read(rt, name, &mut *room);
-    let count = read.count;
-    let end = read.end;
-    if let End::Privileged = end {
-        let counts = every_line(rt, letter, report::heading(rt, c, name), &room[0..count]);
-        if counts.cases != c.cases {
-            return counts;
-        }
-    }
-    report::unread(rt, c, name, end)
-}
-
-fn run_file(rt: &(impl Files + Print), letter: u8, c: Counts, name: &[u8]) -> Counts {
-    let mut room = test_calls::room();
-    within(rt, letter, c, name, &mut room[0..2105344])
-}
-
-// The files of a list: a line for each, with the letter of its subject and its name.
-fn every_file(rt: &(impl Files + Print), list: &[u8]) -> Counts {
-    let mut counts = Counts {
-        cases: 0,
-        failed: 0,
+    let line = match line::read(alloc, source) {
+        Ok(line) => line,
+        Err(error) => return report.broken(source, error),
     };
-    let mut at = 0;
-    while at < list.len() {
-        let end = line::end(list, at);
-        if at + 1 < end {
-            counts = run_file(rt, list[at], counts, &list[at + 1..end]);
-        }
-        at = end + 1;
+    match subject.came(alloc, &line) {
+        Ok(came) => subject.told(report, &line, &came),
+        Err(error) => report.broken(source, error),
     }
-    counts
+}
+
+fn every_line<R: Print>(alloc: Global, report: &mut Report<R>, subject: Subject, text: &str) {
+    for source in text.split_terminator('\n') {
+        if source.is_empty() || source.starts_with('#') {
+            report.heading(source);
+        } else {
+            judge(alloc, report, subject, source);
+        }
+    }
+}
+
+fn every_case<R: Files + Print + AllocGlobal>(
+    report: &mut Report<R>,
+    subject: Subject,
+    name: &str,
+) {
+    let rt = report.rt;
+    match file::read(rt, name) {
+        Ok(text) => {
+            let before = report.counts.cases;
+            report.heading(name);
+            every_line(rt.alloc(), report, subject, &text);
+            if report.counts.cases == before {
+                report.broken(name, "has no case");
+            }
+        }
+        Err(error) => report.broken(name, error),
+    }
 }
 
 fn main(rt: HostRuntime) {
-    let files =
-        b"Ddecode.txt\nMmask.txt\nPplace.txt\nBbytes.txt\nRrefused.txt\nXhex.txt\nHaccess.txt\nHcsr.txt\nHenable.txt\nHregime.txt\nHlegal.txt\nHtrap.txt\nHreturns.txt\nCinstruction.txt\nCcontrol.txt\nCshadow.txt\nCpad.txt\nCfault.txt\nCrun.txt\nCrefusal.txt\nCprogram.txt\nCarithmetic.txt\n";
-    report::total(&rt, every_file(&rt, files));
+    let mut report = Report::new(&rt);
+    for (subject, name) in FILES {
+        every_case(&mut report, subject, name);
+    }
+    report.total();
 }

@@ -2,25 +2,23 @@
 // writing these gives, 0 where they are refused; vectors/decode.py writes the same numbers.
 #![tactic(auto)]
 
-ghost use Rattle.std.specs.Prelude.{◌≤◌};
+ghost use Rattle.std.specs.Prelude.{◌≡◌, ◌<◌, ◌^◌, ◌↔◌, IsSome, length, slice_index};
 
 use decode::decode;
 use decode_numbers::of_instruction;
 use decode_writer::write_numbers;
-use test_lines::line::MOST;
-use test_lines::row;
 
-pub fn run(n: &[u64], got: &mut [u64; MOST]) -> usize
-    ensures { result ≤ 9 }
+// What comes of a case; nothing where the given numbers are none of such a case.
+pub fn run(given: &[u64]) -> Option<[u64; 9]>
+    ensures { IsSome result ↔ ((length given.now ≡ 1) × (slice_index given.now 0 < 2 ^ 32)) }
 {
-    let &[word] = n else {
-        return 0;
+    let [word] = given else {
+        return None;
     };
-    let Ok(word) = u32::try_from(word) else {
-        return 0;
-    };
-    let numbers = of_instruction(decode(word));
-    row::copy(got, 0, &<[u64; 8]>::from(numbers));
-    row::put(got, 8, write_numbers(numbers).map_or(0, u64::from));
-    9
+    let numbers = of_instruction(decode(u32::try_from(*word).ok()?));
+    let [family, operation, rd, rs1, rs2, immediate, first, second] = <[u64; 8]>::from(numbers);
+    let written = write_numbers(numbers).map_or(0, u64::from);
+    Some([
+        family, operation, rd, rs1, rs2, immediate, first, second, written,
+    ])
 }

@@ -5,11 +5,12 @@
 // another afterwards, 256 times its place and the byte, in rising order.
 #![tactic(auto)]
 
-ghost use Rattle.std.specs.Prelude.{◌≡◌, ◌≤◌, length};
+ghost use Rattle.std.specs.Prelude.{◌≤◌, IfOk, vec_len};
 ghost use Rattle.test_lines.specs.Most.{most};
 
+use std::alloc::{AllocError, Global};
+use test_lines::case::CaseError;
 use test_lines::line::MOST;
-use test_lines::row;
 
 // What memory is filled with.
 const FILLING: u8 = 0xee;
@@ -19,114 +20,45 @@ const MEMORY: usize = 1_052_672;
 
 const TEXT: usize = 1440;
 
-// What came of a case: so many numbers of a row.
-#[derive(Drop)]
-struct Came {
-    numbers: [u64; MOST],
-    count: usize,
-}
-
-fn wide(x: u8) -> u64
-    ensures { result ≤ 255 }
+// A number of bytes that may be so many.
+fn counted(bytes: u64, most: usize) -> Result<usize, CaseError>
+    ensures { IfOk result (λ count. count ≤ most) }
 {
-    x as u64
-}
-
-// Takes the bytes of a text out of the numbers of a line.
-fn unpacked(n: &[u64], text: &mut [u8]) {
-    let mut i = 0;
-    while i < text.len() {
-        let eight = row::at(n, 2 + i / 8);
-        text[i] = ((eight >> (i % 8 * 8)) % 256) as u8;
-        i += 1;
+    match usize::try_from(bytes) {
+        Ok(count) if count <= most => Ok(count),
+        _ => Err(CaseError::Given),
     }
 }
 
-// Puts every byte that is not the filling into a row, from its place 4 on. Answers where the row ends, 0 where it has no room for them.
-fn changed(mem: &[u8], got: &mut [u64; MOST]) -> usize
-    ensures { result ≤ most }
-{
-    if mem.len() > MEMORY {
-        return 0;
-    }
-    let mut count = 4;
-    let mut i = 0;
-    while i < mem.len() {
-        let b = mem[i];
-        let at = i as u64;
-        i += 1;
-        if b == FILLING {
-            continue;
-        }
-        if count >= MOST {
-            return 0;
-        }
-        row::put(&mut *got, count, at * 256 + wide(b));
-        count += 1;
-    }
-    count
+// A text of so many bytes, out of the numbers of a line; a byte that no number has is 0.
+fn unpacked(alloc: Global, packed: &[u64], count: usize) -> Result<Vec<u8>, AllocError> {
+    let mut text = packed
+        .iter()
+        .flat_map(|eight| eight.to_le_bytes())
+        .collect::<Vec<u8>>(alloc)?;
+    text.resize(count, 0)?;
+    Ok(text)
 }
 
-// A text, loaded into a memory.
-fn loaded(text: &[u8], mem: &mut [u8]) -> Came
-    ensures { result.count ≤ most }
+// What comes of a case.
+pub fn run(alloc: Global, given: &[u64]) -> Result<Vec<u64>, CaseError>
+    ensures { IfOk result (λ numbers. vec_len numbers ≤ most) }
 {
-    let answer = match intel_hex::load(text, &mut *mem) {
-        Ok(None) => [0, 0, 0, 0],
+    let [len, bytes, packed @ ..] = given else {
+        return Err(CaseError::Given);
+    };
+    let text = unpacked(alloc, packed, counted(*bytes, TEXT)?)?;
+    let mut mem = vec![in alloc; FILLING; counted(*len, MEMORY)?]?;
+    let answer = match intel_hex::load(&text, &mut mem) {
         Ok(Some(start)) => [0, 0, 1, start],
+        Ok(None) => [0; 4],
         Err(refusal) => [refusal.number(), refusal.line(), 0, 0],
     };
-    let mut numbers = [0u64; MOST];
-    row::copy(&mut numbers, 0, &answer);
-    let count = changed(&*mem, &mut numbers);
-    Came { numbers, count }
-}
-
-// A case with room for its text, in its memory.
-fn on(n: &[u64], text: &mut [u8], mem: &mut [u8]) -> Came
-    ensures { result.count ≤ most }
-{
-    unpacked(n, &mut *text);
-    loaded(&*text, mem)
-}
-
-// A case in a room that is filled.
-fn within(n: &[u64], room: &mut [u8]) -> Came
-    ensures { result.count ≤ most }
-{
-    let mut text = [0u8; TEXT];
-    let bytes = row::at(n, 1);
-    let len = row::at(n, 0);
-    if bytes <= 1440 && len <= room.len() as u64 {
-        let count = bytes as usize;
-        let end = len as usize;
-        return on(n, &mut text[0..count], &mut room[0..end]);
+    let mut numbers = answer.to_vec(alloc)?;
+    let changed = mem.iter().enumerate().filter(|(_, byte)| **byte != FILLING);
+    numbers.extend(changed.map(|(place, byte)| (place as u64) << 8 | u64::from(*byte)))?;
+    if numbers.len() > MOST {
+        return Err(CaseError::Given);
     }
-    Came {
-        numbers: [0; MOST],
-        count: 0,
-    }
-}
-
-// Room for a memory, filled. Whoever has it can be lent nothing that it may write to: the checker takes too long over a long array beside that.
-fn room() -> [u8; MEMORY]
-    ensures { 1052672 ≡ length result }
-{
-    [FILLING; MEMORY]
-}
-
-fn tried(n: &[u64]) -> Came
-    ensures { result.count ≤ most }
-{
-    let mut room = room();
-    within(n, &mut room[0..MEMORY])
-}
-
-pub fn run(n: &[u64], got: &mut [u64; MOST]) -> usize
-    ensures { result ≤ most }
-{
-    let came = tried(n);
-    let numbers = came.numbers;
-    row::copy(got, 0, &numbers);
-    came.count
+    Ok(numbers)
 }

@@ -1,70 +1,50 @@
 // A file of cases, read whole.
-ghost use Rattle.std.specs.Prelude.{◌≤◌, length};
+ghost use Rattle.std.specs.Prelude.{◌≤◌, IfOk};
+ghost use Rattle.std.specs.String.{string_len};
+ghost use Rattle.test_lines.specs.Most.{longest};
 
+use std::error::Error;
+use std::fmt;
 use std::fs::File;
 use std::io::Read;
 use std::rt::Files;
-use std::str;
 
-// How reading a file ended.
-#[derive(Clone, Copy)]
-pub enum End {
-    Privileged,
+// How many bytes a file has at most.
+const LONGEST: u64 = 2_105_344;
+
+// Why a file was not read whole.
+#[derive(Clone, Copy, Debug, PartialEq, Eq)]
+pub enum ReadError {
     NotOpened,
     NotRead,
+    NotText,
     TooLong,
 }
 
-// How many bytes of a file were read, and how that ended.
-#[derive(Clone, Copy)]
-pub struct Taken {
-    pub count: usize,
-    pub end: End,
+impl fmt::Display for ReadError {
+    fn fmt<W: fmt::Write>(&self, f: &mut fmt::Formatter<W>) -> fmt::Result {
+        f.write_str(match self {
+            ReadError::NotOpened => "cannot be opened",
+            ReadError::NotRead => "cannot be read",
+            ReadError::NotText => "is no text",
+            ReadError::TooLong => "is longer than the program's buffer",
+        })
+    }
 }
 
-// The file of a name, where it can be opened.
-fn opened<R: Files>(rt: &R, name: &[u8]) -> Option<R::File> {
-    let path = str::from_utf8(name).ok()?;
-    File::open(rt, path).ok()
-}
+impl Error for ReadError {}
 
-// Reads until the room is full, the file ends or a read fails. Answers how many bytes it put at the room's start.
-fn filled(file: &mut impl Read, room: &mut [u8]) -> usize
-    ensures { result ≤ length room.new }
+// Reads a file. One byte more than it may have is asked for, to tell a file that ended from one that is too long.
+pub fn read<R: Files + Alloc>(rt: &R, name: &str) -> Result<String<R::A>, ReadError>
+    ensures { IfOk result (λ text. string_len text ≤ longest) }
 {
-    let mut done = 0;
-    while done < room.len() {
-        let n = file.read(&mut room[done..]).unwrap_or(0);
-        if n == 0 {
-            break;
-        }
-        done += n;
+    let file = File::open(rt, name).map_err(|_| ReadError::NotOpened)?;
+    let mut bytes = Vec::new(rt.alloc());
+    file.take(LONGEST + 1)
+        .read_to_end(&mut bytes)
+        .map_err(|_| ReadError::NotRead)?;
+    if bytes.len() as u64 > LONGEST {
+        return Err(ReadError::TooLong);
     }
-    done
-}
-
-// What a file that was read so far ends with. Reading once more tells a file that ended from one that is too long and from one
-// that failed.
-fn ended(file: &mut impl Read) -> End {
-    let mut one = [0u8; 1];
-    match file.read(&mut one) {
-        Err(_) => End::NotRead,
-        Ok(0) => End::Privileged,
-        Ok(_) => End::TooLong,
-    }
-}
-
-// Reads a file into this room.
-pub fn read(rt: &impl Files, name: &[u8], room: &mut [u8]) -> Taken
-    ensures { result.count ≤ length room.new }
-{
-    if let Some(mut file) = opened(rt, name) {
-        let count = filled(&mut file, room);
-        let end = ended(&mut file);
-        return Taken { count, end };
-    }
-    Taken {
-        count: 0,
-        end: End::NotOpened,
-    }
+    String::from_utf8(bytes).map_err(|_| ReadError::NotText)
 }

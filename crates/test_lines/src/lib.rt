@@ -2,11 +2,13 @@
 // case is about: a program hands over the numbers that its code gave.
 #![tactic(auto)]
 
+// Why a case cannot be run.
+pub mod case;
 // A file.
 pub mod file;
 // The reader of a line.
 pub mod line;
+// The names of a hart's numbers.
+pub mod names;
 // What is printed, and the counts.
 pub mod report;
-// Rows of numbers.
-pub mod row;

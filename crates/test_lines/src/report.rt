@@ -1,272 +1,143 @@
 // What is printed, and the counts of it. Whatever is wrong with a file or a line is a failed case, with
 // a line that says what: nothing is skipped in silence.
-ghost use Rattle.std.specs.Prelude.{◌≡◌, ◌≤◌, true, length, ◌≢◌};
+ghost use Rattle.std.specs.Prelude.{◌≡◌, ◌≢◌, true, false};
 ghost use Rattle.test_lines.specs.Counted.{one_more_of};
 
-use super::file::End;
-use super::line::{Fault, Line};
-use super::row;
+use super::line::Line;
+use std::fmt;
+use std::fmt::Display;
 
-#[derive(Clone, Copy)]
+// A count stays at the largest number, so that it never falls back to 0.
+#[derive(Clone, Copy, Debug, Default, PartialEq, Eq)]
 pub struct Counts {
     pub cases: u64,
     pub failed: u64,
 }
 
-fn print(rt: &impl Print, text: &[u8]) {
-    let _ = rt.write_all(text);
-}
+// Numbers, each with a blank before it.
+#[derive(Clone, Copy)]
+struct Listed<'a>(&'a [u64]);
 
-// Stays at the largest number, so that a count never falls back to 0.
-fn more(n: u64) -> u64
-    ensures { result ≡ one_more_of n }
-{
-    if n < 0xffff_ffff_ffff_ffff { n + 1 } else { n }
-}
-
-fn passed(c: Counts) -> Counts
-    ensures { (result.cases ≡ one_more_of c.cases) × (result.failed ≡ c.failed) }
-{
-    Counts {
-        cases: more(c.cases),
-        failed: c.failed,
-    }
-}
-
-fn failed(c: Counts) -> Counts
-    ensures { (result.cases ≡ one_more_of c.cases) × (result.failed ≡ one_more_of c.failed) }
-{
-    Counts {
-        cases: more(c.cases),
-        failed: more(c.failed),
-    }
-}
-
-// A heading or an empty line: printed as it is, and no case.
-pub fn heading(rt: &impl Print, c: Counts, s: &[u8]) -> Counts
-    ensures { result ≡ c }
-{
-    print(rt, s);
-    print(rt, b"\n");
-    c
-}
-
-// A line or a file that cannot be run: `what` says which, and `why` what is wrong with it.
-pub fn broken(rt: &impl Print, c: Counts, what: &[u8], why: &[u8]) -> Counts
-    ensures { (result.cases ≡ one_more_of c.cases) × (result.failed ≡ one_more_of c.failed) }
-{
-    print(rt, b"FAILED ");
-    print(rt, what);
-    print(rt, b": ");
-    print(rt, why);
-    print(rt, b"\n");
-    failed(c)
-}
-
-// A line that has not the form of a case.
-pub fn malformed(rt: &impl Print, c: Counts, s: &[u8], fault: Fault) -> Counts
-    ensures { (result.cases ≡ one_more_of c.cases) × (result.failed ≡ one_more_of c.failed) }
-{
-    match fault {
-        Fault::Nothing => broken(rt, c, s, b"nothing is wrong"),
-        Fault::Numbers => broken(
-            rt,
-            c,
-            s,
-            b"a number has more than 64 bits, or there are more numbers than 192",
-        ),
-        Fault::NoEquals => broken(
-            rt,
-            c,
-            s,
-            b"a bad character, or no '=', after the given numbers",
-        ),
-        Fault::NoText => broken(
-            rt,
-            c,
-            s,
-            b"a bad character, or no '#', after the wanted numbers",
-        ),
-    }
-}
-
-// A file that was not read whole, or has no case.
-pub fn unread(rt: &impl Print, c: Counts, name: &[u8], end: End) -> Counts
-    ensures { (result.cases ≡ one_more_of c.cases) × (result.failed ≡ one_more_of c.failed) }
-{
-    match end {
-        End::Privileged => broken(rt, c, name, b"has no case"),
-        End::NotOpened => broken(rt, c, name, b"cannot be opened"),
-        End::NotRead => broken(rt, c, name, b"cannot be read"),
-        End::TooLong => broken(rt, c, name, b"is longer than the program's buffer"),
-    }
-}
-
-// Whether two rows of numbers are the same.
-pub fn same(a: &[u64], b: &[u64]) -> bool
-    ensures { (result ≡ true → a.now ≡ b.now) × (a.now ≡ b.now → result ≡ true) }
-{
-    if a.len() != b.len() {
-        return false;
-    }
-    let mut i = 0;
-    while i < a.len() {
-        if a[i] != b[i] {
-            return false;
+impl Display for Listed<'_> {
+    fn fmt<W: fmt::Write>(&self, f: &mut fmt::Formatter<W>) -> fmt::Result {
+        for number in self.0 {
+            write!(f, " {number:x}")?;
         }
-        i += 1;
-    }
-    true
-}
-
-fn print_number(rt: &impl Print, n: u64) {
-    print(rt, b" ");
-    let _ = print!(rt; "{n:x}");
-}
-
-fn print_numbers(rt: &impl Print, a: &[u64]) {
-    let mut i = 0;
-    while i < a.len() {
-        print_number(rt, a[i]);
-        i += 1;
+        Ok(())
     }
 }
 
-// The given numbers as the file has them, and the text.
-fn print_label(rt: &impl Print, s: &[u8], equals: usize, text: usize)
-    requires { (equals ≤ length s.now) × (text ≤ length s.now) }
-{
-    print(rt, &s[0..equals]);
-    print(rt, &s[text..]);
+// Each number that is not the wanted one, by its name. The names stand in groups, one after another.
+#[derive(Clone, Copy)]
+pub struct Differences<'a> {
+    pub names: &'a [&'a [&'a str]],
+    pub wanted: &'a [u64],
+    pub got: &'a [u64],
 }
 
-fn print_ok(rt: &impl Print, s: &[u8], equals: usize, text: usize)
-    requires { (equals ≤ length s.now) × (text ≤ length s.now) }
-{
-    print(rt, b"ok ");
-    print_label(rt, s, equals, text);
-    print(rt, b"\n");
-}
-
-fn print_failed(rt: &impl Print, s: &[u8], equals: usize, text: usize, got: &[u64])
-    requires { (equals ≤ length s.now) × (text ≤ length s.now) }
-{
-    print(rt, b"FAILED ");
-    print_label(rt, s, equals, text);
-    print(rt, b": got");
-    print_numbers(rt, got);
-    print(rt, b"\n");
-}
-
-// A case that was run: it passed exactly if the numbers that came out are the wanted ones.
-pub fn judged(rt: &impl Print, c: Counts, s: &[u8], at: Line, wanted: &[u64], got: &[u64]) -> Counts
-    requires { (at.equals ≤ length s.now) × (at.text ≤ length s.now) }
-    ensures cases_value { result.cases ≡ one_more_of c.cases }
-    ensures failed_value { wanted.now ≡ got.now → result.failed ≡ c.failed }
-    ensures failed_value_2 { (wanted.now ≢ got.now) → result.failed ≡ one_more_of c.failed }
-{
-    let equals = at.equals;
-    let text = at.text;
-    if same(wanted, got) {
-        print_ok(rt, s, equals, text);
-        return passed(c);
-    }
-    print_failed(rt, s, equals, text, got);
-    failed(c)
-}
-
-// Where the name after the one that starts at `at` starts. A blank ends a name.
-fn next_name(names: &[u8], at: usize) -> usize
-    requires { at ≤ length names.now }
-    ensures { (at ≤ result) × (result ≤ length names.now) }
-{
-    let mut i = at;
-    while i < names.len() {
-        if names[i] == b' ' {
-            return i + 1;
+impl Display for Differences<'_> {
+    fn fmt<W: fmt::Write>(&self, f: &mut fmt::Formatter<W>) -> fmt::Result {
+        let names = self.names.iter().copied().flatten();
+        for (name, (wanted, got)) in names.zip(self.wanted.iter().zip(self.got)) {
+            if wanted != got {
+                write!(f, " {name} 0x{got:x} (wanted 0x{wanted:x})")?;
+            }
         }
-        i += 1;
-    }
-    i
-}
-
-// A number that is not the wanted one; of one that is, nothing.
-fn print_difference(rt: &impl Print, name: &[u8], wanted: u64, got: u64) {
-    if wanted != got {
-        print(rt, b" ");
-        print(rt, name);
-        print(rt, b"0x");
-        let _ = print!(rt; "{got:x}");
-        print(rt, b" (wanted 0x");
-        let _ = print!(rt; "{wanted:x}");
-        print(rt, b")");
+        Ok(())
     }
 }
 
-// Each number that is not the wanted one, by its name. Each name in `names` has a blank after it. Answers where the names that
-// are left start.
-pub fn differences(rt: &impl Print, names: &[u8], wanted: &[u64], got: &[u64]) -> usize
-    ensures { result ≤ length names.now }
-{
-    let mut i = 0;
-    let mut at = 0;
-    while i < wanted.len() {
-        let next = next_name(names, at);
-        print_difference(rt, &names[at..next], wanted[i], row::at(got, i));
-        at = next;
-        i += 1;
+impl Counts {
+    fn passed(&mut self)
+        ensures { (self.new.cases ≡ one_more_of self.old.cases) × (self.new.failed ≡ self.old.failed) }
+    {
+        self.cases = self.cases.saturating_add(1);
     }
-    at
-}
 
-fn print_differing(
-    rt: &impl Print,
-    s: &[u8],
-    text: usize,
-    names: &[u8],
-    wanted: &[u64],
-    got: &[u64],
-)
-    requires { text ≤ length s.now }
-{
-    print(rt, b"FAILED ");
-    print(rt, &s[text..]);
-    print(rt, b": got");
-    differences(rt, names, wanted, got);
-    print(rt, b"\n");
-}
-
-// A case of many numbers that was run, as `judged`; printed are its text and, by name, the numbers that are
-// not the wanted ones (`differences`).
-pub fn compared(
-    rt: &impl Print,
-    c: Counts,
-    s: &[u8],
-    at: Line,
-    names: &[u8],
-    wanted: &[u64],
-    got: &[u64],
-) -> Counts
-    requires { at.text ≤ length s.now }
-    ensures cases_value { result.cases ≡ one_more_of c.cases }
-    ensures failed_value { wanted.now ≡ got.now → result.failed ≡ c.failed }
-    ensures failed_value_2 { (wanted.now ≢ got.now) → result.failed ≡ one_more_of c.failed }
-{
-    let text = at.text;
-    if same(wanted, got) {
-        print_ok(rt, s, 0, text);
-        return passed(c);
+    fn failed(&mut self)
+        ensures { (self.new.cases ≡ one_more_of self.old.cases) × (self.new.failed ≡ one_more_of self.old.failed) }
+    {
+        self.passed();
+        self.failed = self.failed.saturating_add(1);
     }
-    print_differing(rt, s, text, names, wanted, got);
-    failed(c)
 }
 
-// The last line.
-pub fn total(rt: &impl Print, c: Counts) -> Counts
-    ensures { result ≡ c }
-{
-    let cases = c.cases;
-    let failures = c.failed;
-    let _ = println!(rt; "{cases} cases, {failures} failed");
-    c
+// Where cases are told of, and the counts so far. A line that cannot be printed is lost, and counts all the same.
+#[derive(Drop)]
+pub struct Report<'a, R: Print> {
+    pub rt: &'a R,
+    pub counts: Counts,
+}
+
+impl<'a, R: Print> Report<'a, R> {
+    pub fn new(rt: &'a R) -> Report<'a, R>
+        ensures { (result.counts.cases ≡ 0) × (result.counts.failed ≡ 0) }
+    {
+        Report {
+            rt,
+            counts: Counts::default(),
+        }
+    }
+
+    // A heading or an empty line: printed as it is, and no case.
+    pub fn heading(&mut self, line: &str)
+        ensures { self.new.counts ≡ self.old.counts }
+    {
+        let _ = println!(self.rt; "{line}");
+    }
+
+    // A line or a file that cannot be run: `what` says which, and `why` what is wrong with it.
+    pub fn broken(&mut self, what: &str, why: impl Display + Drop)
+        ensures cases { self.new.counts.cases ≡ one_more_of self.old.counts.cases }
+        ensures failed { self.new.counts.failed ≡ one_more_of self.old.counts.failed }
+    {
+        let _ = println!(self.rt; "FAILED {what}: {why}");
+        self.counts.failed();
+    }
+
+    // A case that was run, whether what came of it is right, and what is to be printed of it where it is not.
+    fn told(&mut self, case: impl Display + Drop, right: bool, got: impl Display + Drop)
+        ensures cases { self.new.counts.cases ≡ one_more_of self.old.counts.cases }
+        ensures passed { right ≡ true → self.new.counts.failed ≡ self.old.counts.failed }
+        ensures failed { right ≡ false → self.new.counts.failed ≡ one_more_of self.old.counts.failed }
+    {
+        if right {
+            let _ = println!(self.rt; "ok {case}");
+            self.counts.passed();
+        } else {
+            let _ = println!(self.rt; "FAILED {case}: got{got}");
+            self.counts.failed();
+        }
+    }
+
+    // A case that was run: it passed exactly if the numbers that came out are the wanted ones. Printed are the given numbers as the
+    // file has them, and the text.
+    pub fn judged(&mut self, line: &Line, wanted: &[u64], got: &[u64])
+        ensures cases { self.new.counts.cases ≡ one_more_of self.old.counts.cases }
+        ensures passed { wanted.now ≡ got.now → self.new.counts.failed ≡ self.old.counts.failed }
+        ensures failed { (wanted.now ≢ got.now) → self.new.counts.failed ≡ one_more_of self.old.counts.failed }
+    {
+        let label = line.label;
+        let text = line.text;
+        self.told(format_args!("{label}{text}"), wanted == got, Listed(got));
+    }
+
+    // A case of many numbers that was run, as `judged`; printed are its text and, by name, the numbers that are not the wanted ones.
+    pub fn compared(&mut self, line: &Line, names: &[&[&str]], wanted: &[u64], got: &[u64])
+        ensures cases { self.new.counts.cases ≡ one_more_of self.old.counts.cases }
+        ensures passed { wanted.now ≡ got.now → self.new.counts.failed ≡ self.old.counts.failed }
+        ensures failed { (wanted.now ≢ got.now) → self.new.counts.failed ≡ one_more_of self.old.counts.failed }
+    {
+        let differences = Differences { names, wanted, got };
+        self.told(line.text, wanted == got, differences);
+    }
+
+    // The last line.
+    pub fn total(&self) -> Counts
+        ensures { result ≡ self.now.counts }
+    {
+        let Counts { cases, failed } = self.counts;
+        let _ = println!(self.rt; "{cases} cases, {failed} failed");
+        self.counts
+    }
 }

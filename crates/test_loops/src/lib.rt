@@ -3,9 +3,9 @@
 
 // Calls with landing pads, pushes and pop-checks, in U under Sv39.
 pub mod calls;
-// Chained runs, and the numbers of what came of them.
-pub mod chain;
 // Loads and stores.
 pub mod doubles;
+// A loop with its end, chained runs, and the numbers of what came of them.
+pub mod lap;
 // Registers only.
 pub mod registers;

@@ -5,156 +5,134 @@
 // 1 S, 3 M), MPRV, MPP, whether satp says Sv39, SUM, MXR, menvcfg.SSE, the PMM of senvcfg, menvcfg and
 // mseccfg, the address, the length of memory, and the words of the map. The wanted ones are 0, the
 // physical address and 0, or 1, the cause and tval.
-ghost use Rattle.std.specs.Prelude.{length, ◌≡◌, ◌≤◌, ◌^◌};
+ghost use Rattle.std.specs.Prelude.{◌≡◌, ◌<◌, ◌≤◌, ◌↔◌, IfSome, OnSome, IsNone, OnOk, length};
 ghost use Rattle.test_rules.specs.Kinds.{case_kind_of};
 
-use super::width;
+use super::{flag, width};
 use address::Virtual;
 use address::control::Control;
 use address_place::{Place, steps};
-use isa::{Kind, Mode};
-use test_lines::line::MOST;
-use test_lines::row;
+use isa::{Kind, Mode, Width};
+use std::alloc::Global;
+use test_lines::case::CaseError;
 
-// How many given numbers stand before the words of the map.
-const MAP: usize = 14;
+// How many bytes memory has at most: as many as a translation takes.
+const MEMORY: u64 = 1_048_576;
+
+// What is given of a case.
+#[derive(Clone, Copy)]
+struct Access<'a> {
+    kind: Kind,
+    width: Width,
+    control: Control,
+    address: u64,
+    len: u64,
+    map: &'a [u64],
+}
 
 // The kind of access that a number stands for.
-pub fn kind(n: u64) -> Kind
-    ensures { result ≡ case_kind_of n }
+#[tactic(auto, unfolding(crate::specs::Kinds::case_kind_of))]
+pub fn kind(n: u64) -> Option<Kind>
+    ensures kind { IfSome result (λ kind. kind ≡ case_kind_of n) }
+    ensures none { IsNone result ↔ (5 < n) }
 {
     match n {
-        0 => Kind::Fetch,
-        1 => Kind::Load,
-        2 => Kind::Store,
-        3 => Kind::Push,
-        4 => Kind::Pop,
-        _ => Kind::Swap,
+        0 => Some(Kind::Fetch),
+        1 => Some(Kind::Load),
+        2 => Some(Kind::Store),
+        3 => Some(Kind::Push),
+        4 => Some(Kind::Pop),
+        5 => Some(Kind::Swap),
+        _ => None,
     }
 }
 
-fn mode(n: u64) -> Mode {
+fn mode(n: u64) -> Option<Mode> {
     match n {
-        0 => Mode::User,
-        1 => Mode::Supervisor,
-        _ => Mode::Machine,
+        0 => Some(Mode::User),
+        1 => Some(Mode::Supervisor),
+        3 => Some(Mode::Machine),
+        _ => None,
     }
 }
 
-// The numbers before the address: of each a bit for every value that it can have.
-fn values() -> [u64; 12] {
-    [
-        0b11_1111,
-        0b1_0001_0110,
-        0b1011,
-        0b11,
-        0b1011,
-        0b11,
-        0b11,
-        0b11,
-        0b11,
-        0b1101,
-        0b1101,
-        0b1101,
-    ]
-}
-
-// Whether each number is one that its part of the case can have.
-fn known(n: &[u64], values: &[u64; 12]) -> bool {
-    let mut i = 0;
-    while i < 12 {
-        let v = row::at(n, i);
-        if v > 15 {
-            return false;
-        }
-        if values[i] >> v & 1 == 0 {
-            return false;
-        }
-        i += 1;
-    }
-    true
-}
-
-fn flag(n: &[u64], i: usize) -> bool {
-    row::at(n, i) == 1
-}
-
-fn pmm(n: &[u64], i: usize) -> u8 {
-    (row::at(n, i) % 4) as u8
-}
-
-fn control(n: &[u64]) -> Control {
-    Control {
-        mode: mode(row::at(n, 2)),
-        mprv: flag(n, 3),
-        mpp: mode(row::at(n, 4)),
-        sv39: flag(n, 5),
-        sum: flag(n, 6),
-        mxr: flag(n, 7),
-        sse: flag(n, 8),
-        upmm: pmm(n, 9),
-        spmm: pmm(n, 10),
-        mpmm: pmm(n, 11),
+// How many bits are masked, by a field's number: it can be 0, 2 or 3.
+fn pmm(n: u64) -> Option<u8> {
+    match n {
+        0 => Some(0),
+        2 => Some(2),
+        3 => Some(3),
+        _ => None,
     }
 }
 
-fn three(fault: u64, first: u64, second: u64) -> [u64; 3] {
-    [fault, first, second]
+fn read(given: &[u64]) -> Option<Access<'_>>
+    ensures { OnSome result (14 ≤ length given.now) }
+{
+    let [
+        access,
+        bytes,
+        now,
+        mprv,
+        mpp,
+        sv39,
+        sum,
+        mxr,
+        sse,
+        upmm,
+        spmm,
+        mpmm,
+        address,
+        len,
+        map @ ..,
+    ] = given
+    else {
+        return None;
+    };
+    let control = Control {
+        mode: mode(*now)?,
+        mprv: flag::of(*mprv)?,
+        mpp: mode(*mpp)?,
+        sv39: flag::of(*sv39)?,
+        sum: flag::of(*sum)?,
+        mxr: flag::of(*mxr)?,
+        sse: flag::of(*sse)?,
+        upmm: pmm(*upmm)?,
+        spmm: pmm(*spmm)?,
+        mpmm: pmm(*mpmm)?,
+    };
+    Some(Access {
+        kind: kind(*access)?,
+        width: width::of(*bytes)?,
+        control,
+        address: *address,
+        len: *len,
+        map,
+    })
 }
 
 fn shown(p: Place) -> [u64; 3] {
     match p {
-        Place::At(physical) => three(0, physical.number(), 0),
-        Place::Fault(cause, tval) => three(1, cause as u64, tval),
+        Place::At(physical) => [0, physical.number(), 0],
+        Place::Fault(cause, tval) => [1, u64::from(cause), tval],
     }
 }
 
-fn translated(mem: &[u8], n: &[u64], map: &[u64]) -> Place
-    requires { length mem.now ≤ 2 ^ 20 }
+pub fn run(alloc: Global, given: &[u64]) -> Result<[u64; 3], CaseError>
+    ensures { OnOk result (14 ≤ length given.now) }
 {
-    let k = kind(row::at(n, 0));
-    let w = width::of(row::at(n, 1));
-    steps::translate(control(n), k, w, Virtual(row::at(n, 12)), map, mem)
-}
-
-// The case in a room of bytes, of which memory is the first `len`.
-fn within(n: &[u64], len: usize, room: &mut [u8]) -> Place
-    requires { (len ≤ length room.old) × (len ≤ 2 ^ 20) }
-{
-    if n.len() < MAP {
-        return Place::Fault(0, 0);
+    let Access {
+        kind,
+        width,
+        control,
+        address,
+        len,
+        map,
+    } = read(given).ok_or(CaseError::Given)?;
+    if len > MEMORY {
+        return Err(CaseError::Given);
     }
-    translated(&room[0..len], n, &n[MAP..])
-}
-
-// 1,048,576 zeros. Whoever has them can be lent nothing that it may write to: the checker takes too long over a long array beside that.
-fn room() -> [u8; 1048576]
-    ensures { 1048576 ≡ length result }
-{
-    [0; 1048576]
-}
-
-fn tried(n: &[u64], len: usize) -> Place
-    requires { len ≤ 1048576 }
-{
-    let mut room = room();
-    within(n, len, &mut room[0..1048576])
-}
-
-pub fn run(n: &[u64], got: &mut [u64; MOST]) -> usize
-    ensures { result ≤ 3 }
-{
-    let len = row::at(n, 13);
-    if n.len() < MAP {
-        return 0;
-    }
-    if len > 1_048_576 {
-        return 0;
-    }
-    if !known(n, &values()) {
-        return 0;
-    }
-    let numbers = shown(tried(n, len as usize));
-    row::copy(got, 0, &numbers);
-    3
+    let mem = vec![in alloc; 0u8; len as usize]?;
+    let place = steps::translate(control, kind, width, Virtual(address), map, &mem);
+    Ok(shown(place))
 }

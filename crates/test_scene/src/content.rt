@@ -1,81 +1,40 @@
 // The content of a memory in a line of a file of cases: pairs of an offset, which is a multiple of 8, and the
 // eight bytes there as a number; every other byte is 0. And the entries of a page map that are made, of rising pages with
 // rising frames, so that a line has room for 65 of them.
-ghost use Rattle.std.specs.Prelude.{◌≡◌, ◌+◌, ◌-◌, ◌≤◌, length, slice_index};
+ghost use Rattle.std.specs.Prelude.{◌≡◌, ◌+◌, length, IfOk, vec_len};
 
 use isa::Width;
-use std::num;
-use test_lines::line::MOST;
-use test_lines::row;
+use std::alloc::{AllocError, Global};
 
 // What the frame number counts in a leaf.
 const FRAME: u64 = 1024;
 
-// At how many offsets eight bytes fit into a memory of this length.
-fn offsets(len: usize) -> usize
-    ensures { result ≤ len - 7 }
-{
-    if len < 8 {
-        return 0;
-    }
-    len - 7
-}
-
-// Puts each pair into memory. Whether each is one that can be.
-pub fn fill(mem: &mut [u8], pairs: &[u64]) -> bool
+// Puts each pair into memory, where each is one that can be.
+pub fn fill(mem: &mut [u8], pairs: &[u64]) -> Option<()>
     ensures { length mem.new ≡ length mem.old }
 {
-    let mut i = 0;
-    while i + 1 < pairs.len() {
-        let at = pairs[i];
-        if at % 8 != 0 {
-            return false;
-        }
-        if at >= offsets(mem.len()) as u64 {
-            return false;
-        }
-        memory::store(&mut *mem, at as usize, Width::Double, pairs[i + 1]);
-        i += 2;
+    let (pairs, rest) = pairs.as_chunks::<2>();
+    if !rest.is_empty() {
+        return None;
     }
-    i == pairs.len()
+    for [at, eight] in pairs {
+        let last = mem.len().checked_sub(8)? as u64;
+        if at % 8 != 0 || *at > last {
+            return None;
+        }
+        memory::store(mem, *at as usize, Width::Double, *eight);
+    }
+    Some(())
 }
 
-// The byte at a place; 0 where there is none.
-pub fn byte(mem: &[u8], at: usize) -> u8
-    ensures { result ≡ slice_index mem.now at }
+// So many entries of a map, a page and a leaf each: the first has this page and this leaf.
+pub fn rising(alloc: Global, entries: u64, page: u64, leaf: u64) -> Result<Vec<u64>, AllocError>
+    ensures { IfOk result (λ map. vec_len map ≡ entries + entries) }
 {
-    if at < mem.len() {
-        return mem[at];
+    let mut map = Vec::new(alloc);
+    for i in 0..entries {
+        let rise = i.wrapping_mul(FRAME);
+        map.extend_from_slice(&[page.wrapping_add(i), leaf.wrapping_add(rise)])?;
     }
-    0
-}
-
-// Where two memories are not the same: the first place below `end` with another byte, or `end`.
-pub fn differs(a: &[u8], b: &[u8], end: usize) -> usize
-    ensures { result ≤ end }
-{
-    let mut i = 0;
-    while i < end {
-        if byte(a, i) != byte(b, i) {
-            return i;
-        }
-        i += 1;
-    }
-    i
-}
-
-// Makes so many entries of a map, at its start: the first has this page and this leaf. Answers how many words they are.
-pub fn rising(map: &mut [u64; MOST], entries: usize, page: u64, leaf: u64) -> usize
-    requires { entries ≤ 66 }
-    ensures { result ≡ entries + entries }
-{
-    let mut next = leaf;
-    let mut i = 0;
-    while i < entries {
-        row::put(&mut *map, i + i, num::wrapping_add_u64(page, i as u64));
-        row::put(&mut *map, i + i + 1, next);
-        next = num::wrapping_add_u64(next, FRAME);
-        i += 1;
-    }
-    entries + entries
+    Ok(map)
 }
