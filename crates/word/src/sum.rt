@@ -1,4 +1,4 @@
-// Sums and differences modulo 2^64, and their word forms: modulo 2^32 and sign-extended.
+// Sums and differences modulo 2^64; their word forms are the same, sign-extended, so they repeat nothing that a size as a const parameter would save.
 ghost use Rattle.std.specs.Prelude.{◌≡◌};
 ghost use Rattle.word.specs.Sum.{sum_of, difference_of, sum_word_of, difference_word_of};
 
