@@ -15,7 +15,7 @@ use Rattle.address_judge.specs.declared.Verdict.TheVariants.{Granted}
 use Rattle.address_page.specs.Map.{lookup_of}
 use Rattle.isa.specs.declared.Kind.{Kind}
 use Rattle.address_page.specs.declared.Regime.{Regime}
-use Rattle.address_page.specs.declared.map.Found.TheVariants.{Leaf}
+use Rattle.std.specs.Prelude.{Some}
 use Rattle.address_place.specs.Place.{base, within_of, inside_of, canonical_of, page_number, physical_of, settle_of, through_of, paged_place_of}
 use Rattle.address_place.specs.declared.Physical.{Physical}
 use Rattle.address_place.specs.declared.Place.TheVariants.{At}
@@ -46,7 +46,7 @@ pub inside_there : (k : Kind) (w : Width) (len p t : ℕ) → base ≤ p → p +
 unfolding inside_of within_of
 inside_there k w len p t l u = rw (le-leb base p l, le-leb (p + size_of w) (base + len) u)
 
-granted_there : (g : Regime) (k : Kind) (w : Width) (len t e : ℕ) (map : List ℕ) → canonical_of t ≡ true → lookup_of map (page_number t) ≡ Leaf e
+granted_there : (g : Regime) (k : Kind) (w : Width) (len t e : ℕ) (map : List ℕ) → canonical_of t ≡ true → lookup_of map (page_number t) ≡ Some e
     → judge_of g k (leaf_of e) ≡ Granted → base ≤ physical_of e t → physical_of e t + size_of w ≤ base + len
     → paged_place_of g k w t map len ≡ At (record { 0 = physical_of e t })
 unfolding paged_place_of through_of settle_of

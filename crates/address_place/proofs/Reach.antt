@@ -9,6 +9,7 @@ use lib.Dec.{leb}
 use borrow.Author.Tests.{leb-true, eqb-true}
 use Rattle.word.proofs.Bools.{both}
 use Rattle.word.proofs.Choices.{first, second}
+use Rattle.std.specs.Prelude.{Option, Some, None}
 use Rattle.word.specs.Choice.{pick}
 use Rattle.isa.specs.Size.{size_of}
 use Rattle.isa.specs.declared.Width.TheVariants.{Byte, Half, Word, Double}
@@ -24,8 +25,6 @@ use Rattle.isa.specs.declared.Mode.{Mode}
 use Rattle.address_page.specs.declared.Regime.{Regime}
 use Rattle.address_judge.specs.declared.Verdict.TheVariants.{Granted, PageFault, AccessFault}
 use Rattle.address_judge.specs.declared.Verdict.{Verdict}
-use Rattle.address_page.specs.declared.map.Found.TheVariants.{Leaf, Absent}
-use Rattle.address_page.specs.declared.map.Found.{Found}
 use Rattle.address.specs.Align.{aligned_of}
 use Rattle.address.specs.Cause.{misaligned_of, access_fault_of, page_fault_of}
 use Rattle.address.specs.Control.{effective_mode_of, paged_of, regime_of}
@@ -49,7 +48,7 @@ behind false rest c t q e = never c t q e
 pub record Paged (g : Regime) (k : Kind) (w : Width) (t : ℕ) (map : List ℕ) (len : ℕ) (q : Physical) : Type 0 where
   pub leaf : ℕ
   pub canonical : canonical_of t ≡ true
-  pub entry : lookup_of map (page_number t) ≡ Leaf leaf
+  pub entry : lookup_of map (page_number t) ≡ Some leaf
   pub granted : judge_of g k (leaf_of leaf) ≡ Granted
   pub frame : q.0 ≡ physical_of leaf t
   pub within : Within len w q.0
@@ -77,11 +76,11 @@ module _ (k : Kind) (w : Width) (len : ℕ) (q : Physical) where
   settle_at PageFault p t e = never (page_fault_of k) t q e
   settle_at AccessFault p t e = never (access_fault_of k) t q e
 
-  through_at : (g : Regime) (t : ℕ) (map : List ℕ) (f : Found) → canonical_of t ≡ true → lookup_of map (page_number t) ≡ f
+  through_at : (g : Regime) (t : ℕ) (map : List ℕ) (f : Option ℕ) → canonical_of t ≡ true → lookup_of map (page_number t) ≡ f
       → through_of f g k w len t ≡ At q → Paged g k w t map len q
   unfolding through_of
-  through_at g t map Absent c s e = never (page_fault_of k) t q e
-  through_at g t map (Leaf l) c s e =
+  through_at g t map None c s e = never (page_fault_of k) t q e
+  through_at g t map (Some l) c s e =
       let (v, p, i) = settle_at (judge_of g k (leaf_of l)) (physical_of l t) t e in
       record { leaf = l; canonical = c; entry = s; granted = v; frame = p; within = i }
 
@@ -165,18 +164,18 @@ module _ (c : Control) (k : Kind) (w : Width) (a : ℕ) (map : List ℕ) (len : 
 
   -- under Sv39 the leaf that lookup gives has granted it
   pub place_granted : paged_of m c.sv39 ≡ true
-      → (e : ℕ) → lookup_of map (page_number t) ≡ Leaf e → judge_of (regime_of c m) k (leaf_of e) ≡ Granted
+      → (e : ℕ) → lookup_of map (page_number t) ≡ Some e → judge_of (regime_of c m) k (leaf_of e) ≡ Granted
   place_granted p e found =
       let P = place_paged p in
       let s : P.leaf ≡ e = same_leaf P.leaf e (sym P.entry ∙ found) in
       subst (λ (x : ℕ). judge_of (regime_of c m) k (leaf_of x) ≡ Granted) s P.granted
     where
-      same_leaf : (x y : ℕ) → Leaf x ≡ Leaf y → x ≡ y
+      same_leaf : (x y : ℕ) → Some x ≡ Some y → x ≡ y
       same_leaf x y h = cc
 
   -- an ordinary store is never given a place on a shadow page
   pub store_off_shadow : k ≡ Store → paged_of m c.sv39 ≡ true
-      → (e : ℕ) → lookup_of map (page_number t) ≡ Leaf e → shadow_page_of c.sse (leaf_of e) ≡ false
+      → (e : ℕ) → lookup_of map (page_number t) ≡ Some e → shadow_page_of c.sse (leaf_of e) ≡ false
   store_off_shadow s p e found =
       store_elsewhere (regime_of c m) (leaf_of e)
       (subst (λ (x : Kind). judge_of (regime_of c m) x (leaf_of e) ≡ Granted) s (place_granted p e found))
@@ -193,7 +192,7 @@ module _ (c : Control) (k : Kind) (w : Width) (a : ℕ) (map : List ℕ) (len : 
 
   -- and on a shadow page alone
   pub shadow_on_shadow : is_shadow_of k ≡ true
-      → (e : ℕ) → lookup_of map (page_number t) ≡ Leaf e → shadow_page_of c.sse (leaf_of e) ≡ true
+      → (e : ℕ) → lookup_of map (page_number t) ≡ Some e → shadow_page_of c.sse (leaf_of e) ≡ true
   shadow_on_shadow s e found = shadow_there (regime_of c m) (leaf_of e) k s (place_granted (shadow_paged s) e found)
 
 -- how much of the map counts

@@ -4,7 +4,7 @@
 --
 -- Below, c is what the hart's mode and CSRs say, m the effective mode, a the address as the program gives it, t the transformed
 -- one, which is also tval, p the physical one, and len the number of bytes of memory.
-use Rattle.std.specs.Prelude.{Bool, ◌&&◌, List, ℕ, ◌+◌, ◌-◌, ◌*◌, ◌/◌, ◌%◌, ◌^◌, ◌≤◌, eqb, leb}
+use Rattle.std.specs.Prelude.{Bool, ◌&&◌, List, ℕ, ◌+◌, ◌-◌, ◌*◌, ◌/◌, ◌%◌, ◌^◌, ◌≤◌, eqb, leb, Option, Some, None}
 use Rattle.word.specs.Choice.{pick}
 use Rattle.isa.specs.Size.{size_of}
 use Rattle.isa.specs.declared.Width.{Width}
@@ -17,8 +17,6 @@ use Rattle.isa.specs.declared.Mode.{Mode}
 use Rattle.address_page.specs.declared.Regime.{Regime}
 use Rattle.address_judge.specs.declared.Verdict.{Verdict}
 use Rattle.address_judge.specs.declared.Verdict.TheVariants.{Granted, PageFault, AccessFault}
-use Rattle.address_page.specs.declared.map.Found.{Found}
-use Rattle.address_page.specs.declared.map.Found.TheVariants.{Leaf, Absent}
 use Rattle.address.specs.Align.{aligned_of}
 use Rattle.address.specs.Cause.{misaligned_of, access_fault_of, page_fault_of}
 use Rattle.address.specs.Control.{effective_mode_of, paged_of, regime_of}
@@ -66,9 +64,9 @@ settle_of PageFault k w len p t = Fault (page_fault_of k) t
 settle_of AccessFault k w len p t = Fault (access_fault_of k) t
 
 -- step 5: page fault if no entry has this page number; else steps 5 to 9 at its leaf
-unfoldable pub through_of : Found → Regime → Kind → Width → (len t : ℕ) → Place
-through_of Absent g k w len t = Fault (page_fault_of k) t
-through_of (Leaf e) g k w len t = settle_of (judge_of g k (leaf_of e)) k w len (physical_of e t) t
+unfoldable pub through_of : Option ℕ → Regime → Kind → Width → (len t : ℕ) → Place
+through_of None g k w len t = Fault (page_fault_of k) t
+through_of (Some e) g k w len t = settle_of (judge_of g k (leaf_of e)) k w len (physical_of e t) t
 
 -- steps 5 to 9, under Sv39
 unfoldable pub paged_place_of : Regime → Kind → Width → (t : ℕ) → (map : List ℕ) → (len : ℕ) → Place

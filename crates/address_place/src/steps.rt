@@ -2,7 +2,6 @@
 ghost use Rattle.std.specs.Prelude.{false, ◌≡◌, ◌^◌, ◌≤◌, length};
 ghost use Rattle.isa.specs.declared.Width.TheVariants.{Word};
 ghost use Rattle.isa.specs.declared.Kind.TheVariants.{Fetch};
-ghost use Rattle.address_page.specs.declared.map.Found.TheVariants.{Absent};
 ghost use Rattle.address_page.specs.Kinds.{is_fetch_of, is_shadow_of};
 ghost use Rattle.address_page.specs.Map.{lookup_of};
 ghost use Rattle.address.specs.Control.{flat_of};
@@ -14,7 +13,6 @@ use super::{BASE, Physical, Place};
 use address::control::Control;
 use address::{Virtual, align, cause, control, mask};
 use address_judge::Verdict;
-use address_page::map::Found;
 use address_page::{Regime, kinds, map};
 use isa::{Kind, Width, size};
 
@@ -51,13 +49,13 @@ fn canonical(t: u64) -> bool
 }
 
 // Step 5: what the map has for the address's page; for one that is not canonical, nothing.
-fn found(t: Virtual, map: &[u64]) -> Found
-    ensures { result ≡ pick (canonical_of t.0) (lookup_of map.now (page_number t.0)) Absent }
+fn found(t: Virtual, map: &[u64]) -> Option<u64>
+    ensures { result ≡ pick (canonical_of t.0) (lookup_of map.now (page_number t.0)) None }
 {
     if canonical(t.0) {
         return map::lookup(map, t.0 / 4096 % 0x800_0000);
     }
-    Found::Absent
+    None
 }
 
 // Where the leaf of this word leads.
@@ -79,13 +77,13 @@ fn settle(v: Verdict, k: Kind, w: Width, len: u64, p: Physical, t: Virtual) -> P
 }
 
 // Steps 5 to 9, with what the map has for the page.
-fn through(f: Found, g: Regime, k: Kind, w: Width, len: u64, t: Virtual) -> Place
+fn through(f: Option<u64>, g: Regime, k: Kind, w: Width, len: u64, t: Virtual) -> Place
     requires { len ≤ 2 ^ 20 }
     ensures { result ≡ through_of f g k w len t.0 }
 {
     match f {
-        Found::Absent => Place::Fault(cause::page_fault(k), t.0),
-        Found::Leaf(e) => settle(
+        None => Place::Fault(cause::page_fault(k), t.0),
+        Some(e) => settle(
             address_judge::judge_word(g, k, e),
             k,
             w,
@@ -110,8 +108,8 @@ fn paged_fetch(g: Regime, t: Virtual, map: &[u64], len: u64) -> Place
     ensures { result ≡ paged_place_of g Fetch Word t.0 map.now len }
 {
     match found(t, map) {
-        Found::Absent => Place::Fault(cause::page_fault(Kind::Fetch), t.0),
-        Found::Leaf(e) => settle(
+        None => Place::Fault(cause::page_fault(Kind::Fetch), t.0),
+        Some(e) => settle(
             address_judge::judge_fetch(g, e),
             Kind::Fetch,
             Width::Word,

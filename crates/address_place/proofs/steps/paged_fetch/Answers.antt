@@ -6,25 +6,25 @@ use Rattle.address_place.proofs.Entry.{paged_through}
 use Rattle.address_place.specs.Place.{through_of}
 use Rattle.address_place.proofs.steps.paged_fetch.Goals as goal
 
-pub returns-in-Absent : goal.returns-in-Absent
+pub returns-in-None : goal.returns-in-None
 unfolding through_of
-returns-in-Absent c =
+returns-in-None c =
     let a = c.args in
     rw (
       paged_through a.g Fetch Word a.t.0 a.len a.map.now,
       sym c.found.ensures
-          ∙ c.in-Absent.is,
+          ∙ c.in-None.is,
       c.page_fault.ensures,
     )
 
-pub returns-in-Leaf : goal.returns-in-Leaf
+pub returns-in-Some : goal.returns-in-Some
 unfolding through_of
-returns-in-Leaf c =
+returns-in-Some c =
     let a = c.args in
     rw (
       paged_through a.g Fetch Word a.t.0 a.len a.map.now,
       sym c.found.ensures
-          ∙ c.in-Leaf.is,
+          ∙ c.in-Some.is,
       ← c.judge_fetch.ensures,
       ← c.physical.ensures,
     ) c.settle.ensures

@@ -2,11 +2,11 @@
 use Rattle.address_place.specs.Place.{through_of}
 use Rattle.address_place.proofs.steps.through.Goals as goal
 
-pub returns-in-Absent : goal.returns-in-Absent
+pub returns-in-None : goal.returns-in-None
 unfolding through_of
-returns-in-Absent c = rw (c.in-Absent.is, c.page_fault.ensures)
+returns-in-None c = rw (c.in-None.is, c.page_fault.ensures)
 
-pub returns-in-Leaf : goal.returns-in-Leaf
+pub returns-in-Some : goal.returns-in-Some
 unfolding through_of
-returns-in-Leaf c =
-    rw (c.in-Leaf.is, ← c.judge_word.ensures, ← c.physical.ensures) c.settle.ensures
+returns-in-Some c =
+    rw (c.in-Some.is, ← c.judge_word.ensures, ← c.physical.ensures) c.settle.ensures
