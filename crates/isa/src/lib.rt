@@ -49,6 +49,13 @@ pub enum Mode {
     Machine,
 }
 
+// What mcause and mtval get of an exception.
+#[derive(Clone, Copy)]
+pub struct Exception {
+    pub cause: u8,
+    pub tval: u64,
+}
+
 // When a branch is taken.
 #[derive(Clone, Copy)]
 pub enum Condition {
