@@ -3,17 +3,12 @@ ghost use Rattle.std.specs.Prelude.{◌≡◌};
 ghost use Rattle.address.specs.Align.{aligned_of};
 
 use super::Virtual;
-use isa::Width;
+use isa::{Width, size};
 
-// A width an arm, and not `size::bytes(w)`: the remainder by a known power of two is one machine instruction, by a number it is a division.
+// The compiler knows that what `size::bytes` gives is a power of two: no machine division is left of this.
 #[tactic(auto, unfolding(crate::specs::Align::aligned_of))]
 pub fn aligned(w: Width, a: Virtual) -> bool
     ensures { result ≡ aligned_of w a.0 }
 {
-    match w {
-        Width::Byte => true,
-        Width::Half => a.0 % 2 == 0,
-        Width::Word => a.0 % 4 == 0,
-        Width::Double => a.0 % 8 == 0,
-    }
+    a.0 % size::bytes(w) == 0
 }

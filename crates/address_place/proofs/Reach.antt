@@ -30,11 +30,11 @@ use Rattle.address.specs.Cause.{fault_of}
 use Rattle.address.specs.Control.{effective_mode_of, paged_of, regime_of}
 use Rattle.address.specs.Mask.{transformed_of}
 use Rattle.address.specs.declared.control.Control.{Control}
-use Rattle.address_place.specs.Place.{Place, base, within_of, Within, inside_of, canonical_of, page_number, physical_of, settle_of, through_of, paged_place_of}
+use Rattle.address_place.specs.Place.{PlaceOrFault, base, within_of, Within, inside_of, canonical_of, page_number, physical_of, settle_of, through_of, paged_place_of}
 use Rattle.address_place.specs.Place.{plain_place_of, reached_of, place_of}
 use Rattle.address_place.specs.declared.Physical.{Physical}
 
-pub behind : (b : Bool) (rest : Place) (x : Exception) (q : Physical) → pick b rest (Err x) ≡ Ok q → (b ≡ true) × (rest ≡ Ok q)
+pub behind : (b : Bool) (rest : PlaceOrFault) (x : Exception) (q : Physical) → pick b rest (Err x) ≡ Ok q → (b ≡ true) × (rest ≡ Ok q)
 behind true rest x q e = (refl, e)
 behind false rest x q e = cc
 
@@ -108,10 +108,10 @@ module _ (c : Control) (k : Kind) (w : Width) (a : ℕ) (map : List ℕ) (len : 
   abbrev t : ℕ
   t = transformed_of c (effective_mode_of c k) k a
 
-  abbrev paged : Place
+  abbrev paged : PlaceOrFault
   paged = paged_place_of (regime_of c m) k w t map len
 
-  abbrev plain : Place
+  abbrev plain : PlaceOrFault
   plain = plain_place_of k w t len
 
   reached : (aligned_of w t ≡ true) × (pick (paged_of m c.sv39) paged plain ≡ Ok q)

@@ -25,8 +25,8 @@ use Rattle.address.specs.declared.control.Control.{Control}
 use Rattle.address_place.specs.declared.Physical.{Physical}
 
 -- where an access goes, or why it does not
-abbrev pub Place : Type 0
-Place = Result Physical Exception
+abbrev pub PlaceOrFault : Type 0
+PlaceOrFault = Result Physical Exception
 
 -- memory's first byte has this physical address
 abbrev pub base : ℕ
@@ -41,7 +41,7 @@ abbrev pub Within : (len : ℕ) → Width → (p : ℕ) → Type 0
 Within len w p = (base ≤ p) × (p + size_of w ≤ base + len)
 
 -- step 9: a byte outside memory is an access fault
-unfoldable pub inside_of : Kind → Width → (len p t : ℕ) → Place
+unfoldable pub inside_of : Kind → Width → (len p t : ℕ) → PlaceOrFault
 inside_of k w len p t = pick (within_of len p (size_of w)) (Ok (record { 0 = p })) (Err (fault_of Access k t))
 
 -- step 5: bits 63:39 must equal bit 38
@@ -61,35 +61,35 @@ abbrev pub physical_of : (e t : ℕ) → ℕ
 physical_of e t = frame_of e * 4096 + t % 4096
 
 -- steps 5 to 8 give a page fault or an access fault, or lead on to step 9
-unfoldable pub settle_of : Verdict → Kind → Width → (len p t : ℕ) → Place
+unfoldable pub settle_of : Verdict → Kind → Width → (len p t : ℕ) → PlaceOrFault
 settle_of (Ok granted) k w len p t = inside_of k w len p t
 settle_of (Err f) k w len p t = Err (fault_of f k t)
 
 -- step 5: page fault if no entry has this page number; else steps 5 to 9 at its leaf
-unfoldable pub through_of : Option ℕ → Regime → Kind → Width → (len t : ℕ) → Place
+unfoldable pub through_of : Option ℕ → Regime → Kind → Width → (len t : ℕ) → PlaceOrFault
 through_of None g k w len t = Err (fault_of Page k t)
 through_of (Some e) g k w len t = settle_of (judge_of g k (leaf_of e)) k w len (physical_of e t) t
 
 -- steps 5 to 9, under Sv39
-unfoldable pub paged_place_of : Regime → Kind → Width → (t : ℕ) → (map : List ℕ) → (len : ℕ) → Place
+unfoldable pub paged_place_of : Regime → Kind → Width → (t : ℕ) → (map : List ℕ) → (len : ℕ) → PlaceOrFault
 paged_place_of g k w t map len =
     pick (canonical_of t) (through_of (lookup_of map (page_number t)) g k w len t) (Err (fault_of Page k t))
 
 -- in M or Bare: step 4, a shadow access is cause 7; then step 9
-unfoldable pub plain_place_of : Kind → Width → (t len : ℕ) → Place
+unfoldable pub plain_place_of : Kind → Width → (t len : ℕ) → PlaceOrFault
 plain_place_of k w t len = pick (is_shadow_of k) (Err (record { cause = 7; tval = t })) (inside_of k w len t t)
 
 -- steps 3 to 9, in their order
-unfoldable pub reached_of : Control → Mode → Kind → Width → (t : ℕ) → (map : List ℕ) → (len : ℕ) → Place
+unfoldable pub reached_of : Control → Mode → Kind → Width → (t : ℕ) → (map : List ℕ) → (len : ℕ) → PlaceOrFault
 reached_of c m k w t map len =
     pick (aligned_of w t)
     (pick (paged_of m c.sv39) (paged_place_of (regime_of c m) k w t map len) (plain_place_of k w t len))
     (Err (fault_of Misaligned k t))
 
 -- steps 1 to 9
-unfoldable pub place_of : Control → Kind → Width → (a : ℕ) → (map : List ℕ) → (len : ℕ) → Place
+unfoldable pub place_of : Control → Kind → Width → (a : ℕ) → (map : List ℕ) → (len : ℕ) → PlaceOrFault
 place_of c k w a map len = reached_of c (effective_mode_of c k) k w (transformed_of c (effective_mode_of c k) k a) map len
 
 -- steps 3 and 9, of an access that is neither masked nor translated
-unfoldable pub flat_place_of : Kind → Width → (a len : ℕ) → Place
+unfoldable pub flat_place_of : Kind → Width → (a len : ℕ) → PlaceOrFault
 flat_place_of k w a len = pick (aligned_of w a) (inside_of k w len a a) (Err (fault_of Misaligned k a))

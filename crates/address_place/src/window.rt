@@ -6,8 +6,8 @@ ghost use Rattle.address.specs.Control.{bare_of};
 ghost use Rattle.address_place.specs.Window.{covers_of, Shows};
 
 use super::{BASE, steps};
-use address::control::Control;
 use address::Virtual;
+use address::control::Control;
 use word::sum;
 
 // The addresses from `low` on, `span` of them. The first of them stands at index `at` of memory.

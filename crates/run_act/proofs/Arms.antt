@@ -20,7 +20,7 @@ use Rattle.isa.specs.declared.Width.TheVariants.{Double}
 use Rattle.isa.specs.declared.WordOperation.{WordOperation}
 use Rattle.address.specs.Stack.{push_of}
 use Rattle.address.specs.declared.control.Control.{Control}
-use Rattle.address_place.specs.Place.{place_of, Place}
+use Rattle.address_place.specs.Place.{place_of, PlaceOrFault}
 use Rattle.step_effect.specs.Compute.{operation_of, word_operation_of, condition_of}
 use Rattle.step_effect.specs.Jump.{jal_of, jalr_of, branch_of, even_of}
 use Rattle.step_effect.specs.Register.{put_of}
@@ -35,12 +35,12 @@ use Rattle.run_act.specs.Act.{Touched}
 use Rattle.run_act.specs.declared.Acted.{Acted}
 use Rattle.run_act.proofs.Ways.{undone_does, wrote_does, does_as, still, untouched}
 
-push_parts : (p : Place) (rd a b ssp next : ℕ) (m : List ℕ) → at_of access.Push p rd a b ssp next m ≡ at_of access.Push p 0 0 b ssp next m
+push_parts : (p : PlaceOrFault) (rd a b ssp next : ℕ) (m : List ℕ) → at_of access.Push p rd a b ssp next m ≡ at_of access.Push p 0 0 b ssp next m
 unfolding at_of done_of
 push_parts (Ok q) rd a b ssp next m = refl
 push_parts (Err fault) rd a b ssp next m = refl
 
-pop_parts : (p : Place) (rd a b ssp next : ℕ) (m : List ℕ) → at_of access.Pop p rd a b ssp next m ≡ at_of access.Pop p 0 a 0 ssp next m
+pop_parts : (p : PlaceOrFault) (rd a b ssp next : ℕ) (m : List ℕ) → at_of access.Pop p rd a b ssp next m ≡ at_of access.Pop p 0 a 0 ssp next m
 unfolding at_of done_of
 pop_parts (Ok q) rd a b ssp next m = refl
 pop_parts (Err fault) rd a b ssp next m = refl

@@ -21,7 +21,7 @@ use Rattle.address.specs.Cause.{fault_of}
 use Rattle.address.specs.Control.{effective_mode_of, paged_of, regime_of}
 use Rattle.address.specs.Mask.{transformed_of}
 use Rattle.address.specs.declared.control.Control.{Control}
-use Rattle.address_place.specs.Place.{base, paged_place_of, plain_place_of, reached_of, place_of, Place}
+use Rattle.address_place.specs.Place.{base, paged_place_of, plain_place_of, reached_of, place_of, PlaceOrFault}
 use Rattle.address_place.specs.declared.Physical.{Physical}
 use Rattle.address_place.proofs.Page.{inside_there, page_decides}
 use Rattle.address_place.proofs.Reach.{behind, place_within, place_plain}
@@ -57,10 +57,10 @@ module _ (c : Control) (k : Kind) (low : ℕ) (map : List ℕ) (len : ℕ) (q : 
   abbrev t : ℕ
   t = transformed_of c (effective_mode_of c k) k low
 
-  abbrev paged : Width → ℕ → Place
+  abbrev paged : Width → ℕ → PlaceOrFault
   paged w p = paged_place_of (regime_of c m) k w p map len
 
-  abbrev plain : Width → ℕ → Place
+  abbrev plain : Width → ℕ → PlaceOrFault
   plain w p = plain_place_of k w p len
 
   reached : pick (paged_of m c.sv39) (paged Double t) (plain Double t) ≡ Ok q

@@ -14,13 +14,7 @@ use step_meaning::Source;
 use word::{choice, sum};
 
 #[tactic(auto, unfolding(step_meaning::specs::Plan::fetched_of))]
-fn fetch(
-    source: Source,
-    c: Control,
-    pc: u64,
-    mem: &[u8],
-    map: &[u64],
-) -> Result<u32, Exception>
+fn fetch(source: Source, c: Control, pc: u64, mem: &[u8], map: &[u64]) -> Result<u32, Exception>
     requires { length mem.now ≤ 2 ^ 20 }
     ensures { result ≡ fetched_of source c pc mem.now map.now }
 {

@@ -24,7 +24,7 @@ use Rattle.isa.specs.declared.Instruction.TheVariants.{Ebreak, Sret, Mret, Csr, 
 use Rattle.isa.specs.declared.Mode.{Mode}
 use Rattle.isa.specs.declared.Mode.TheVariants.{User, Supervisor, Machine}
 use Rattle.address.specs.Kind.{kind_of}
-use Rattle.address_place.specs.Place.{place_of, Place}
+use Rattle.address_place.specs.Place.{place_of, PlaceOrFault}
 use Rattle.address_place.specs.declared.Physical.{Physical}
 use Rattle.csr_access.specs.Reach.{reach_of}
 use Rattle.csr_access.specs.declared.reach.Reached.{Reached}
@@ -106,7 +106,7 @@ module _ (a b ssp next : ℕ) (m : List ℕ) (p : ssp % 8 ≡ 0) (n : next % 4 �
   done_aligned access.Pop q rd = chosen (eqb (read_of m q (width_of access.Pop)) a) _ _ (λ _. (omega (arith, p), n)) tt
   done_aligned (access.Swap w aq rl) q rd = n
 
-  at_aligned : (k : Access) (at : Place) (rd : ℕ) → Aligned (at_of k at rd a b ssp next m)
+  at_aligned : (k : Access) (at : PlaceOrFault) (rd : ℕ) → Aligned (at_of k at rd a b ssp next m)
   unfolding at_of
   at_aligned k (Ok q) rd = done_aligned k q rd
   at_aligned k (Err fault) rd = tt

@@ -30,7 +30,7 @@ use Rattle.csr_access.specs.declared.reach.Reached.TheVariants as reached
 use Rattle.step_transfer.specs.Access.{gate_of_instruction, address_of, read_of, popped_of, done_of, at_of, passed_of, access_of}
 use Rattle.step_effect.specs.Compute.{condition_of}
 use Rattle.step_effect.specs.Csrs.{csr_reached_of, csr_effect_of}
-use Rattle.address_place.specs.Place.{Within, Place}
+use Rattle.address_place.specs.Place.{Within, PlaceOrFault}
 use Rattle.step_effect.specs.Effect.{Stays}
 use Rattle.step_meaning.specs.Instruction.{execute_of}
 use Rattle.step_effect.specs.Jump.{even_of, jal_of, jalr_of, branch_of}
@@ -85,7 +85,7 @@ done_stays access.Push q rd a b ssp next m h = h
 done_stays access.Pop q rd a b ssp next m h = chosen (eqb (read_of m q (width_of access.Pop)) a) _ _ (length m) (omega arith) (omega arith)
 done_stays (access.Swap w aq rl) q rd a b ssp next m h = h
 
-at_stays : (k : Access) (p : Place) (rd a b ssp next : ℕ) (m : List ℕ)
+at_stays : (k : Access) (p : PlaceOrFault) (rd a b ssp next : ℕ) (m : List ℕ)
     → ((q : Physical) → p ≡ Ok q → Within (length m) (width_of k) q.0)
     → Stays (at_of k p rd a b ssp next m) (length m)
 unfolding at_of

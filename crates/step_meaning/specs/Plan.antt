@@ -6,7 +6,7 @@ use Rattle.decode.specs.Decode.{decode_of}
 use Rattle.isa.specs.declared.Exception.{Exception}
 use Rattle.isa.specs.declared.Width.TheVariants as width
 use Rattle.isa.specs.declared.Kind.TheVariants as kind
-use Rattle.address_place.specs.Place.{place_of, Place}
+use Rattle.address_place.specs.Place.{place_of, PlaceOrFault}
 use Rattle.address.specs.declared.control.Control.{Control}
 use Rattle.step_transfer.specs.Access.{read_of}
 use Rattle.step_meaning.specs.Instruction.{next_of, execute_of}
@@ -22,7 +22,7 @@ abbrev pub Fetched : Type 0
 Fetched = Result ℕ Exception
 
 -- the four bytes at a place, or the fetch fault
-abbrev pub word_at : Place → (m : List ℕ) → Fetched
+abbrev pub word_at : PlaceOrFault → (m : List ℕ) → Fetched
 word_at (Ok q) m = Ok (read_of m q width.Word)
 word_at (Err fault) m = Err fault
 

@@ -14,7 +14,7 @@ use Rattle.isa.specs.declared.Width.TheVariants.{Double}
 use Rattle.memory.specs.Bytes.{load_of}
 use Rattle.memory.specs.Extend.{extend_of}
 use Rattle.address.specs.Kind.{kind_of}
-use Rattle.address_place.specs.Place.{base, place_of, Place}
+use Rattle.address_place.specs.Place.{base, place_of, PlaceOrFault}
 use Rattle.address.specs.Stack.{push_of}
 use Rattle.address_place.specs.declared.Physical.{Physical}
 use Rattle.csr_access.specs.Exception.{illegal_of}
@@ -66,7 +66,7 @@ done_of access.Pop q rd a b ssp next m = popped_of (read_of m q Double) a ssp ne
 done_of (access.Swap w aq rl) q rd a b ssp next m = Swap rd (extend_of w true (read_of m q w)) q w b next
 
 -- a fault is the instruction's exception, and changes nothing else
-unfoldable pub at_of : Access → Place → (rd a b ssp next : ℕ) → (m : List ℕ) → Effect
+unfoldable pub at_of : Access → PlaceOrFault → (rd a b ssp next : ℕ) → (m : List ℕ) → Effect
 at_of k (Ok q) rd a b ssp next m = done_of k q rd a b ssp next m
 at_of k (Err fault) rd a b ssp next m = Trap fault.cause fault.tval
 

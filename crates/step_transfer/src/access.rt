@@ -94,7 +94,16 @@ fn done(k: Access, q: Physical, rd: u8, a: u64, b: u64, ssp: u64, next: u64, mem
     }
 }
 
-fn at(k: Access, p: Result<Physical, Exception>, rd: u8, a: u64, b: u64, ssp: u64, next: u64, mem: &[u8]) -> Effect
+fn at(
+    k: Access,
+    p: Result<Physical, Exception>,
+    rd: u8,
+    a: u64,
+    b: u64,
+    ssp: u64,
+    next: u64,
+    mem: &[u8],
+) -> Effect
     requires { (q : Physical) → p ≡ Ok q → Within (length mem.now) (width_of k) q.0 }
     ensures { result ≡ at_of k p rd a b ssp next mem.now }
 {

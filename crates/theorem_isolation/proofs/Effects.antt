@@ -22,7 +22,7 @@ use Rattle.isa.specs.declared.Kind.{Kind}
 use Rattle.isa.specs.declared.Kind.TheVariants as kind
 use Rattle.address.specs.Kind.{kind_of}
 use Rattle.address.specs.declared.control.Control.{Control}
-use Rattle.address_place.specs.Place.{place_of, Place}
+use Rattle.address_place.specs.Place.{place_of, PlaceOrFault}
 use Rattle.address_place.specs.declared.Physical.{Physical}
 use Rattle.step_effect.specs.Register.{reg_of}
 use Rattle.step_effect.specs.declared.Effect.{Effect}
@@ -58,7 +58,7 @@ module _ (Of : (o : ℕ) → Type 0) (s : Setting) (map m n : List ℕ) (A : Ali
   done_twin (access.Swap w aq rl) q at rd a b ssp next e =
       ap (λ (v : ℕ). Swap rd (extend_of w true v) q w b next) (read_alike kind.Swap w at q e)
 
-  at_twin : (k : Access) (p : Place) (at rd a b ssp next : ℕ) → place_of c (kind_of k) (width_of k) at map (length m) ≡ p
+  at_twin : (k : Access) (p : PlaceOrFault) (at rd a b ssp next : ℕ) → place_of c (kind_of k) (width_of k) at map (length m) ≡ p
       → at_of k p rd a b ssp next m ≡ at_of k p rd a b ssp next n
   unfolding at_of
   at_twin k (Ok q) at rd a b ssp next e = done_twin k q at rd a b ssp next e
@@ -110,7 +110,7 @@ module _ (Of : (o : ℕ) → Type 0) (s : Setting) (map m n : List ℕ) (A : Ali
     arrived_twin (Ok w) = landed_twin w
     arrived_twin (Err fault) = refl
 
-    word_alike : (p : Place) → place_of c kind.Fetch width.Word pc map (length m) ≡ p → word_at p m ≡ word_at p n
+    word_alike : (p : PlaceOrFault) → place_of c kind.Fetch width.Word pc map (length m) ≡ p → word_at p m ≡ word_at p n
     word_alike (Ok q) e = ap (λ (v : ℕ). Ok v) (read_alike kind.Fetch width.Word pc q e)
     word_alike (Err fault) e = refl
 

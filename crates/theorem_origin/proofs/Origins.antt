@@ -26,7 +26,7 @@ use Rattle.isa.specs.declared.Width.TheVariants.{Double}
 use Rattle.isa.specs.declared.Mode.{Mode}
 use Rattle.isa.specs.declared.Mode.TheVariants.{User, Supervisor, Machine}
 use Rattle.address.specs.Kind.{kind_of}
-use Rattle.address_place.specs.Place.{place_of, Place}
+use Rattle.address_place.specs.Place.{place_of, PlaceOrFault}
 use Rattle.address.specs.Stack.{push_of}
 use Rattle.address_place.specs.declared.Physical.{Physical}
 use Rattle.csr_access.proofs.Users.{user_ssp}
@@ -173,7 +173,7 @@ module _ (source : Source) (h : Hart) (m map : List ℕ) where
           popped_origin q (given access.Pop q reads opened place) (eqb (read_of m q Double) a) refl
       done_origin (access.Swap w aq rl) q reads opened place = (aq, rl, given (access.Swap w aq rl) q reads opened place)
 
-      at_origin : (k : Access) (p : Place) → decode_of word ≡ Memory k rd rs1 rs2 off → gate_of_instruction k s.shadow s.permitted ≡ gate.Open
+      at_origin : (k : Access) (p : PlaceOrFault) → decode_of word ≡ Memory k rd rs1 rs2 off → gate_of_instruction k s.shadow s.permitted ≡ gate.Open
           → place_of (in_force h) (kind_of k) (width_of k) (address_of k (sum_of a off) (SSP of h.words)) map (length m) ≡ p
           → Origin (at_of k p rd a b (SSP of h.words) (next_of (PC of h.words)) m)
       unfolding at_of

@@ -8,10 +8,10 @@ use mathlib.Core.Path.{◌≡◌}
 use Prim.Native.Nat.{ℕ, suc, ◌+◌, ◌-◌, ◌%◌, ◌≤◌, ◌<◌}
 use Rattle.word.specs.Sum.{sum_of, difference_of}
 use Rattle.isa.specs.declared.Width.TheVariants.{Double}
-use Rattle.address_place.specs.Place.{base, Within, Place}
+use Rattle.address_place.specs.Place.{base, Within, PlaceOrFault}
 use Rattle.address_place.specs.declared.Physical.{Physical}
 
-pub record Geometry (slot : ℕ → Place) (Shadow : ℕ → Type 0) (len : ℕ) : Type 0 where
+pub record Geometry (slot : ℕ → PlaceOrFault) (Shadow : ℕ → Type 0) (len : ℕ) : Type 0 where
   pub rank : ℕ → ℕ
   pub rank_up : (a : ℕ) (q : Physical) → a % 8 ≡ 0 → slot a ≡ Ok q → rank (sum_of a 8) ≡ suc (rank a)
   pub rank_down : (a : ℕ) (q : Physical) → a % 8 ≡ 0 → slot (difference_of a 8) ≡ Ok q → rank a ≡ suc (rank (difference_of a 8))

@@ -3,7 +3,7 @@
 -- word. It covers pushes, pops and pops below the start alike.
 -- Assumes nothing.
 use Rattle.std.specs.Prelude.{Ok}
-use Rattle.address_place.specs.Place.{Place, base}
+use Rattle.address_place.specs.Place.{PlaceOrFault, base}
 use mathlib.Core.List.{List, [], ◌∷◌}
 use mathlib.Core.Logic.{◌⊎◌, inl, inr}
 use mathlib.Core.Path.{◌≡◌, refl, sym, ap, ◌∙◌}
@@ -38,7 +38,7 @@ eight_up s h = omega arith
 eight_down : (s : ℕ) → s % 8 ≡ 0 → difference_of s 8 % 8 ≡ 0
 eight_down s h = omega arith
 
-module _ (slot : ℕ → Place) (Shadow : ℕ → Type 0) (len : ℕ) (G : Geometry slot Shadow len) (s₀ : ℕ) (m₀ : List ℕ) where
+module _ (slot : ℕ → PlaceOrFault) (Shadow : ℕ → Type 0) (len : ℕ) (G : Geometry slot Shadow len) (s₀ : ℕ) (m₀ : List ℕ) where
   abbrev rank : ℕ → ℕ
   rank = G.rank
 

@@ -19,7 +19,7 @@ use Rattle.isa.specs.declared.Mode.{Mode}
 use Rattle.address_place.proofs.Reach.{place_aligned, shadow_paged}
 use Rattle.address.specs.Control.{effective_mode_of}
 use Rattle.address.specs.Mask.{pmlen_of, mask_of, transformed_of}
-use Rattle.address_place.specs.Place.{base, frame_of, Within, canonical_of, page_number, reached_of, place_of, Place}
+use Rattle.address_place.specs.Place.{base, frame_of, Within, canonical_of, page_number, reached_of, place_of, PlaceOrFault}
 use Rattle.address_place.specs.declared.Physical.{Physical}
 use Rattle.address.specs.declared.control.Control.{Control}
 use Rattle.theorem_origin.proofs.Entries.{Behind, behind}
@@ -45,7 +45,7 @@ eights p q f g v u hv hu ep eq n =
         let e : p ≡ q = omega arith in
         n (omega arith) (omega arith)
 
-one_place : (p q : Physical) → Ok p ≡ Ok q → p ≡ q
+one_place : (p q : Physical) → ◌≡◌ {A = PlaceOrFault} (Ok p) (Ok q) → p ≡ q
 one_place p q e = cc
 
 module _ (c : Control) (map : List ℕ) (len : ℕ) (user : c.mode ≡ User) (sv39 : c.sv39 ≡ true) (once : StandsOnce c map) where
@@ -59,7 +59,7 @@ module _ (c : Control) (map : List ℕ) (len : ℕ) (user : c.mode ≡ User) (sv
   abbrev m : Mode
   m = effective_mode_of c kind.Pop
 
-  abbrev slot : ℕ → Place
+  abbrev slot : ℕ → PlaceOrFault
   slot a = place_of c kind.Pop Double a map len
 
   -- the address as masking leaves it, which is then translated

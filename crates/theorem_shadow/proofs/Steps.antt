@@ -21,7 +21,7 @@ use Rattle.isa.specs.declared.Kind.{Kind}
 use Rattle.isa.specs.declared.Kind.TheVariants as kind
 use Rattle.isa.specs.declared.Mode.TheVariants.{User}
 use Rattle.address_place.proofs.Reach.{place_within}
-use Rattle.address_place.specs.Place.{base, place_of, Place}
+use Rattle.address_place.specs.Place.{base, place_of, PlaceOrFault}
 use Rattle.address_place.specs.declared.Physical.{Physical}
 use Rattle.address.specs.declared.control.Control.{Control}
 use Rattle.csr.specs.declared.Csr.{Csr}
@@ -56,7 +56,7 @@ module _ (map : List ℕ) (h₀ : Hart) (m₀ : List ℕ) where
   abbrev c : Control
   c = in_force h₀
 
-  abbrev pub slot : ℕ → Place
+  abbrev pub slot : ℕ → PlaceOrFault
   slot a = place_of c kind.Pop Double a map (length m₀)
 
   -- a hart with the mode and CSRs of the start is given the place that it would be given there

@@ -1,5 +1,5 @@
 -- `address_page::map::lookup` meets its contract: the entries from one on answer for the map. Assumes nothing.
-use mathlib.Core.Path.{◌≡◌, refl, sym, ◌∙◌}
+use mathlib.Core.Path.{◌≡◌, sym, ◌∙◌}
 use Prim.Native.Nat.{◌+◌, ◌*◌}
 use native.Mathlib.Omega.{arith}
 use Rattle.address_page.proofs.Entries.{entry_at, lookup_end, lookup_hit, lookup_miss}
