@@ -2,8 +2,9 @@
 -- Assumes nothing.
 use mathlib.Core.Path.{◌≡◌, refl, sym, ◌∙◌}
 use mathlib.Core.Bool.{Bool, true, false, ◌&&◌, ◌||◌, not}
+use mathlib.Core.Logic.{◌⊎◌, inl, inr}
 use mathlib.Core.List.{List, [], ◌∷◌}
-use Prim.Native.Nat.{ℕ, zero, suc, ◌+◌, ◌*◌, ◌%◌, ◌^◌, ◌<◌, ◌≤◌}
+use Prim.Native.Nat.{ℕ, zero, suc, ◌+◌, ◌*◌, ◌/◌, ◌%◌, ◌^◌, ◌<◌, ◌≤◌}
 use native.Mathlib.Numerals.{add-one}
 use native.Mathlib.Omega.{arith}
 use lib.Dec.{eqb, leb, ltb}
@@ -12,9 +13,10 @@ use lib.Seq.{drop-cons}
 use borrow.Author.Tests.{eq-eqb, ne_eqb, le-leb, lt-leb, lt-ltb, le-ltb, eqb-true, eqb-false, ltb-false, leb-false}
 use Rattle.word.proofs.Bools.{neither}
 use Rattle.word.proofs.Either.{either}
+use Rattle.std.specs.Simd.{first_chunks}
 use Rattle.word.specs.Choice.{pick}
 use Rattle.address_page.specs.Map.{lookup_of, pages_of, any_large, rise_from, strictly_rise, map_refused_of}
-use Rattle.address_page.specs.declared.map.Found.TheVariants.{Leaf, Absent}
+use Rattle.std.specs.Prelude.{Some, None}
 
 -- the next two words
 two : (l : List ℕ) (i : ℕ) → i + 2 ≤ length l → drop i l ≡ get_or l i 0 ∷ get_or l (i + 1) 0 ∷ drop (i + 2) l
@@ -22,7 +24,7 @@ two l i h =
     let e : i + 2 ≡ suc (suc i) = omega arith in
     rw (e, add-one, drop-cons l i 0 (omega arith), drop-cons l (suc i) 0 (omega arith))
 
-short_lookup : (l : List ℕ) (p : ℕ) → length l < 2 → lookup_of l p ≡ Absent
+short_lookup : (l : List ℕ) (p : ℕ) → length l < 2 → lookup_of l p ≡ None
 unfolding lookup_of
 short_lookup [] p h = refl
 short_lookup (k ∷ []) p h = refl
@@ -30,10 +32,10 @@ short_lookup (k ∷ e ∷ l) p h = absurd (omega arith)
 
 -- lookup, at word i of the map
 module _ (map : List ℕ) (i p : ℕ) where
-  pub lookup_end : length map < i + 2 → lookup_of (drop i map) p ≡ Absent
+  pub lookup_end : length map < i + 2 → lookup_of (drop i map) p ≡ None
   lookup_end h = short_lookup (drop i map) p (simp length-drop (omega arith))
 
-  pub lookup_hit : i + 2 ≤ length map → get_or map i 0 ≡ p → lookup_of (drop i map) p ≡ Leaf (get_or map (i + 1) 0)
+  pub lookup_hit : i + 2 ≤ length map → get_or map i 0 ≡ p → lookup_of (drop i map) p ≡ Some (get_or map (i + 1) 0)
   unfolding lookup_of
   lookup_hit h e = rw (two map i h, eq-eqb (get_or map i 0) p e)
 
@@ -52,12 +54,9 @@ pub record Stands (map : List ℕ) (page leaf : ℕ) : Type 0 where
   pub number : get_or map (2 * place) 0 ≡ page
   pub word : get_or map (suc (2 * place)) 0 ≡ leaf
 
-none : {A : Type 0} (leaf : ℕ) → Absent ≡ Leaf leaf → A
-none leaf e = absurd (let z : ◌≡◌ {A = ℕ} 0 1 = cc in omega arith)
-
 -- the first entry, or one of the rest
-either_entry : {k l page leaf : ℕ} {rest : List ℕ} (b : Bool) → eqb k page ≡ b → pick b (Leaf l) (lookup_of rest page) ≡ Leaf leaf
-    → (lookup_of rest page ≡ Leaf leaf → Stands rest page leaf) → Stands (k ∷ l ∷ rest) page leaf
+either_entry : {k l page leaf : ℕ} {rest : List ℕ} (b : Bool) → eqb k page ≡ b → pick b (Some l) (lookup_of rest page) ≡ Some leaf
+    → (lookup_of rest page ≡ Some leaf → Stands rest page leaf) → Stands (k ∷ l ∷ rest) page leaf
 either_entry {k} {l} {page} {leaf} {rest} true h f more =
     record { place = 0; inside = omega arith; number = eqb-true k page h; word = cc }
 either_entry {k} {l} {page} {leaf} {rest} false h f more =
@@ -65,10 +64,10 @@ either_entry {k} {l} {page} {leaf} {rest} false h f more =
     record { place = suc s.place; inside = omega (arith, s.inside); number = rw double s.number; word = rw double s.word }
 
 -- what lookup finds is an entry
-pub lookup_stands : (map : List ℕ) (page leaf : ℕ) → lookup_of map page ≡ Leaf leaf → Stands map page leaf
+pub lookup_stands : (map : List ℕ) (page leaf : ℕ) → lookup_of map page ≡ Some leaf → Stands map page leaf
 unfolding lookup_of
-lookup_stands [] page leaf e = none leaf e
-lookup_stands (k ∷ []) page leaf e = none leaf e
+lookup_stands [] page leaf e = cc
+lookup_stands (k ∷ []) page leaf e = cc
 lookup_stands (k ∷ l ∷ rest) page leaf e = either_entry (eqb k page) refl e (lookup_stands rest page leaf)
 
 -- what the loop of refusal 3 has still to ask: a number too low or too large from here on
@@ -108,13 +107,17 @@ wrong_all (k ∷ rest) =
 unfoldable pub wrong_at : ℕ → List ℕ → Bool
 wrong_at low words = wrong low (pages_of words)
 
-pub refused_odd : (map : List ℕ) → (length map % 2 ≡ 0 → ⊥) → map_refused_of map ≡ true
+refused_odd : (map : List ℕ) → (length map % 2 ≡ 0 → ⊥) → map_refused_of map ≡ true
 unfolding map_refused_of
 refused_odd map h = rw (eq-eqb (length map % 2) 1 (omega arith))
 
-pub refused_long : (map : List ℕ) → length map % 2 ≡ 0 → 128 < length map → map_refused_of map ≡ true
+refused_long : (map : List ℕ) → length map % 2 ≡ 0 → 128 < length map → map_refused_of map ≡ true
 unfolding map_refused_of
 refused_long map h l = rw (ne_eqb (length map % 2) 1 (λ e. omega arith), lt-ltb 128 (length map) l)
+
+pub refused_length : (map : List ℕ) → (length map % 2 ≡ 0 → ⊥) ⊎ (length map % 2 ≡ 0 × 128 < length map) → true ≡ map_refused_of map
+refused_length map (inl odd) = sym (refused_odd map odd)
+refused_length map (inr (even, long)) = sym (refused_long map even long)
 
 pub refused_start : (map : List ℕ) → length map % 2 ≡ 0 → length map ≤ 128 → map_refused_of map ≡ wrong_at 0 map
 unfolding map_refused_of wrong_at
@@ -142,6 +145,30 @@ module _ (map : List ℕ) (i low : ℕ) where
       → wrong_at low (drop i map) ≡ wrong_at (get_or map i 0 + 1) (drop (i + 2) map)
   unfolding wrong_at wrong pages_of
   wrong_next h e g = rw (two map i h, le-ltb (get_or map i 0) low e, lt-leb (2 ^ 27) (get_or map i 0) g)
+
+-- an entry's two words, where the map is taken entry by entry
+pub record EntryAt (map : List ℕ) (entries : List (List ℕ)) (i : ℕ) : Type 0 where
+  pub inside : 2 * i + 2 ≤ length map
+  pub number : get_or (get_or entries i []) 0 0 ≡ get_or map (2 * i) 0
+  pub word : get_or (get_or entries i []) 1 0 ≡ get_or map (2 * i + 1) 0
+
+words_from : (n i : ℕ) (map : List ℕ) → i < n → 2 * n ≤ length map
+    → (get_or (get_or (first_chunks 2 n map) i []) 0 0 ≡ get_or map (2 * i) 0) × (get_or (get_or (first_chunks 2 n map) i []) 1 0 ≡ get_or map (2 * i + 1) 0)
+words_from zero i map h p = absurd (omega arith)
+words_from (suc n) i [] h p = absurd (omega arith)
+words_from (suc n) i (k ∷ []) h p = absurd (omega arith)
+words_from (suc n) zero (k ∷ e ∷ rest) h p = (refl, refl)
+words_from (suc n) (suc i) (k ∷ e ∷ rest) h p =
+    let o : 2 * suc i + 1 ≡ suc (suc (2 * i + 1)) = omega arith in
+    let (a, b) = words_from n i rest (omega arith) (omega arith) in
+    (rw (double i) a, rw o b)
+
+pub entry_at : (map : List ℕ) (entries : List (List ℕ)) → entries ≡ first_chunks 2 (length map / 2) map → length entries ≡ length map / 2
+    → (i : ℕ) → i < length entries
+    → EntryAt map entries i
+entry_at map entries e l i h =
+    let (a, b) = words_from (length map / 2) i map (omega arith) (omega arith) in
+    record { inside = omega arith; number = rw e a; word = rw e b }
 
 -- a map of no entry is accepted
 pub empty_accepted : map_refused_of [] ≡ false
@@ -181,7 +208,7 @@ rises low (k ∷ e ∷ rest) h (suc i) (suc j) l p =
     rw (double i, double j) (rises (k + 1) rest (unpack low k e rest h).2 i j (omega arith) (omega arith))
 
 finds : (low : ℕ) (map : List ℕ) → wrong_at low map ≡ false
-    → (i : ℕ) → 2 * i + 2 ≤ length map → lookup_of map (get_or map (2 * i) 0) ≡ Leaf (get_or map (suc (2 * i)) 0)
+    → (i : ℕ) → 2 * i + 2 ≤ length map → lookup_of map (get_or map (2 * i) 0) ≡ Some (get_or map (suc (2 * i)) 0)
 unfolding lookup_of
 finds low [] h i p = absurd (omega arith)
 finds low (k ∷ []) h i p = absurd (omega arith)
@@ -220,5 +247,5 @@ module _ (map : List ℕ) (ok : map_refused_of map ≡ false) where
       (λ l. either j i (λ m. absurd (omega (arith, rises 0 map right j i m p))) (λ m. omega arith))
 
   -- so lookup finds each entry
-  pub entry_found : (i : ℕ) → 2 * i + 2 ≤ length map → lookup_of map (get_or map (2 * i) 0) ≡ Leaf (get_or map (suc (2 * i)) 0)
+  pub entry_found : (i : ℕ) → 2 * i + 2 ≤ length map → lookup_of map (get_or map (2 * i) 0) ≡ Some (get_or map (suc (2 * i)) 0)
   entry_found i p = finds 0 map right i p

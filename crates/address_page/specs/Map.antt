@@ -1,14 +1,12 @@
 -- The page map: two words a page, the page number and then its leaf. Rules 1.9, 2.6 and 7.5 of docs/HART.md.
-use Rattle.std.specs.Prelude.{Bool, true, false, ◌&&◌, ◌||◌, not, List, [], ◌∷◌, ℕ, ◌%◌, ◌^◌, eqb, leb, ltb, length}
+use Rattle.std.specs.Prelude.{Bool, true, false, ◌&&◌, ◌||◌, not, List, [], ◌∷◌, ℕ, ◌%◌, ◌^◌, eqb, leb, ltb, length, Option, Some, None}
 use Rattle.word.specs.Choice.{pick}
-use Rattle.address_page.specs.declared.map.Found.TheVariants.{Leaf, Absent}
-use Rattle.address_page.specs.declared.map.Found.{Found}
 
 -- the leaf word of the first entry that has this page number
-unfoldable pub lookup_of : List ℕ → ℕ → Found
-lookup_of [] page = Absent
-lookup_of (k ∷ []) page = Absent
-lookup_of (k ∷ e ∷ rest) page = pick (eqb k page) (Leaf e) (lookup_of rest page)
+unfoldable pub lookup_of : List ℕ → ℕ → Option ℕ
+lookup_of [] page = None
+lookup_of (k ∷ []) page = None
+lookup_of (k ∷ e ∷ rest) page = pick (eqb k page) (Some e) (lookup_of rest page)
 
 -- the page numbers, in their order
 unfoldable pub pages_of : List ℕ → List ℕ

@@ -7,38 +7,17 @@ use isa::Kind;
 pub fn is_shadow(k: Kind) -> bool
     ensures { result ≡ is_shadow_of k }
 {
-    match k {
-        Kind::Fetch => false,
-        Kind::Load => false,
-        Kind::Store => false,
-        Kind::Push => true,
-        Kind::Pop => true,
-        Kind::Swap => true,
-    }
+    matches!(k, Kind::Push | Kind::Pop | Kind::Swap)
 }
 
 pub fn is_fetch(k: Kind) -> bool
     ensures { result ≡ is_fetch_of k }
 {
-    match k {
-        Kind::Fetch => true,
-        Kind::Load => false,
-        Kind::Store => false,
-        Kind::Push => false,
-        Kind::Pop => false,
-        Kind::Swap => false,
-    }
+    matches!(k, Kind::Fetch)
 }
 
 pub fn writes(k: Kind) -> bool
     ensures { result ≡ writes k }
 {
-    match k {
-        Kind::Fetch => false,
-        Kind::Load => false,
-        Kind::Store => true,
-        Kind::Push => true,
-        Kind::Pop => false,
-        Kind::Swap => true,
-    }
+    matches!(k, Kind::Store | Kind::Push | Kind::Swap)
 }

@@ -3,13 +3,12 @@
 --
 -- Below, es are the entries, frames a flag for each of the 256 frames of memory; s is what the hart's mode and CSRs say, m memory. An empty entry has
 -- the address `none`.
-use Rattle.std.specs.Prelude.{Bool, true, false, Option, Some, None, List, ◌⊎◌, ◌≡◌, ℕ, ◌+◌, ◌/◌, ◌%◌, ◌<◌, length, get_or}
+use Rattle.std.specs.Prelude.{Bool, true, false, Option, Some, None, List, ◌⊎◌, ◌≡◌, ℕ, ◌+◌, ◌/◌, ◌%◌, ◌<◌, length, get_or, Ok}
 use Rattle.isa.specs.declared.Kind.TheVariants.{Fetch}
 use Rattle.isa.specs.declared.Width.TheVariants.{Word}
 use Rattle.decode.specs.Decode.{decode_of}
 use Rattle.memory.specs.Bytes.{load_of}
 use Rattle.address_place.specs.Place.{base, place_of}
-use Rattle.address_place.specs.declared.Place.TheVariants.{At}
 use Rattle.csr_setting.specs.declared.Setting.{Setting}
 use Rattle.run_form.specs.Form.{Means}
 use Rattle.run_form.specs.declared.Op.TheVariants.{Add}
@@ -32,7 +31,7 @@ flag_at frames i = get_or frames (i / 4096) false
 
 -- what was read at an entry's address: the word stands at this index, and the form does what its instruction does
 pub record Read (e : Entry) (s : Setting) (m map : List ℕ) : Type 0 where
-  pub place : place_of s.control Fetch Word e.pc map (length m) ≡ At (record { 0 = base + e.at })
+  pub place : place_of s.control Fetch Word e.pc map (length m) ≡ Ok (record { 0 = base + e.at })
   pub means : Means e.form (decode_of (load_of m e.at 4)) (load_of m e.at 4) e.pc s
   pub small : (e.form.rd < 32) × (e.form.rs1 < 32) × (e.form.rs2 < 32)
 

@@ -24,7 +24,6 @@ ghost use Rattle.run_turn.specs.Glide.{Straight, Glides};
 ghost use Rattle.run_fast.specs.Memo.{slot_of, Read, Fewer, Clear, AllClear, Emptied};
 
 use address::Virtual;
-use address_place::Place;
 use address_place::steps::fetch;
 use csr_setting::Setting;
 use csr_words::{COUNT as WORDS, ELP, PC, setting, sized};
@@ -78,12 +77,12 @@ fn read(pc: u64, s: Setting, mem: &[u8], map: &[u64]) -> Option<Entry>
 {
     let c = s.control;
     match fetch(c, Virtual(pc), map, mem) {
-        Place::At(q) => {
+        Ok(q) => {
             let at = q.index();
             let form = of_word(memory::word(mem, at), pc, s);
             Some(Entry { pc, at, form })
         }
-        Place::Fault(_, _) => None,
+        Err(_) => None,
     }
 }
 

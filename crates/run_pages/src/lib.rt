@@ -7,12 +7,11 @@
 
 ghost use Rattle.std.specs.Prelude.{◌≡◌, IfSome, ◌+◌, ◌/◌, ◌^◌, ◌<◌, ◌≤◌, length};
 ghost use Rattle.address_place.specs.Place.{base, place_of};
-ghost use Rattle.address_place.specs.declared.Place.TheVariants.{At};
 ghost use Rattle.run_pages.specs.Pages.{kind_at, Remembers};
 
 use address::Virtual;
 use address::control::Control;
-use address_place::{Place, steps};
+use address_place::steps;
 use isa::{Kind, Width, size};
 
 // Of 6 kinds of accesses, 64 pages each.
@@ -36,13 +35,13 @@ fn remember(ps: &mut [Page; COUNT], j: usize, k: Kind, a: u64, c: Control, mem: 
 {
     let low = a - a % 4096;
     match steps::translate(c, k, Width::Double, Virtual(low), map, mem) {
-        Place::At(q) => {
+        Ok(q) => {
             let at = q.index();
             if at + 4096 <= mem.len() {
                 ps[j] = Page { first: low, at };
             }
         }
-        Place::Fault(_, _) => {}
+        Err(_) => {}
     }
 }
 
@@ -59,13 +58,13 @@ fn find(
 ) -> Option<usize>
     requires { (length mem.now ≤ 2 ^ 20) × (j < 384) × (kind_at (j / 64) ≡ k)
         × Remembers ps.old c map.now (length mem.now) }
-    ensures place { IfSome result (λ at. place_of c k n a map.now (length mem.now) ≡ At (record { 0 = base + at })) }
+    ensures place { IfSome result (λ at. place_of c k n a map.now (length mem.now) ≡ Ok (record { 0 = base + at })) }
     ensures pages { Remembers ps.new c map.now (length mem.now) }
 {
     remember(ps, j, k, a, c, mem, map);
     match steps::translate(c, k, n, Virtual(a), map, mem) {
-        Place::At(q) => Some(q.index()),
-        Place::Fault(_, _) => None,
+        Ok(q) => Some(q.index()),
+        Err(_) => None,
     }
 }
 
@@ -80,7 +79,7 @@ pub fn seek(
     map: &[u64],
 ) -> Option<usize>
     requires { (length mem.now ≤ 2 ^ 20) × Remembers ps.old c map.now (length mem.now) }
-    ensures place { IfSome result (λ at. place_of c k n a map.now (length mem.now) ≡ At (record { 0 = base + at })) }
+    ensures place { IfSome result (λ at. place_of c k n a map.now (length mem.now) ≡ Ok (record { 0 = base + at })) }
     ensures pages { Remembers ps.new c map.now (length mem.now) }
 {
     let j = k as usize * 64 + (a / 4096 % 64) as usize;

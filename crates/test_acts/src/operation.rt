@@ -8,7 +8,7 @@
 ghost use Rattle.std.specs.Prelude.{◌≡◌, OnOk, length};
 
 use super::state;
-use address::{control, mask};
+use address::mask;
 use csr::Csr;
 use csr_setting::{Setting, reach};
 use csr_words::{MENVCFG, MODE, SENVCFG, setting};
@@ -69,13 +69,13 @@ fn says(h: Hart) -> Setting {
 // for menvcfg.SSE, and 64 times the masked bits.
 fn regime(h: Hart, kind: Kind) -> u64 {
     let g = says(h).control;
-    let m = control::effective(g, kind);
+    let m = g.effective(kind);
     u64::from(m)
-        + 4 * u64::from(control::paged(g, m))
+        + 4 * u64::from(g.paged(m))
         + 8 * u64::from(g.sum)
         + 16 * u64::from(g.mxr)
         + 32 * u64::from(g.sse)
-        + 64 * mask::pmlen(control::pmm(g, m))
+        + 64 * mask::pmlen(g.pmm(m))
 }
 
 impl Operation {

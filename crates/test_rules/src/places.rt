@@ -11,8 +11,8 @@ ghost use Rattle.test_rules.specs.Kinds.{case_kind_of};
 use super::{flag, width};
 use address::Virtual;
 use address::control::Control;
-use address_place::{Place, steps};
-use isa::{Kind, Mode, Width};
+use address_place::{Physical, steps};
+use isa::{Exception, Kind, Mode, Width};
 use std::alloc::Global;
 use test_lines::case::CaseError;
 
@@ -111,10 +111,10 @@ fn read(given: &[u64]) -> Option<Access<'_>>
     })
 }
 
-fn shown(p: Place) -> [u64; 3] {
+fn shown(p: Result<Physical, Exception>) -> [u64; 3] {
     match p {
-        Place::At(physical) => [0, physical.number(), 0],
-        Place::Fault(cause, tval) => [1, u64::from(cause), tval],
+        Ok(physical) => [0, physical.number(), 0],
+        Err(Exception { cause, tval }) => [1, u64::from(cause), tval],
     }
 }
 

@@ -14,7 +14,7 @@ use Rattle.word.proofs.Either.{either}
 use Rattle.address_leaf.specs.Leaf.{leaf_of, has_right_of}
 use Rattle.address_page.proofs.Entries.{lookup_stands, entry_found}
 use Rattle.address_page.specs.Map.{lookup_of, map_refused_of}
-use Rattle.address_page.specs.declared.map.Found.TheVariants.{Leaf}
+use Rattle.std.specs.Prelude.{Some}
 use Rattle.address.specs.declared.control.Control.{Control}
 use Rattle.address_place.specs.Place.{frame_of}
 use Rattle.step_hart.specs.declared.Hart.{Hart}
@@ -81,7 +81,7 @@ one_run map h m n S budget =
 pub record NamedByPage (Valid : Control → (e : ℕ) → Type 0) (c : Control) (map : List ℕ) (frame : ℕ) : Type 0 where
   pub page : ℕ
   pub leaf : ℕ
-  pub found : lookup_of map page ≡ Leaf leaf
+  pub found : lookup_of map page ≡ Some leaf
   pub valid : Valid c leaf
   pub names : frame_of leaf ≡ frame
 

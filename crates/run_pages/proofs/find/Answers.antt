@@ -8,9 +8,9 @@ use Rattle.run_pages.proofs.find.Goals as goal
 pub index-requires : goal.index-requires
 index-requires c =
     let a = c.args in
-    (place_within a.c a.k a.n a.a a.map.now (length a.mem.now) c.in-At.q (sym c.translate.ensures ∙ c.in-At.is)).0
+    (place_within a.c a.k a.n a.a a.map.now (length a.mem.now) c.in-Ok.q (sym c.translate.ensures ∙ c.in-Ok.is)).0
 
-pub returns-in-At-clause-place : goal.returns-in-At-clause-place
-returns-in-At-clause-place c =
+pub returns-in-Ok-clause-place : goal.returns-in-Ok-clause-place
+returns-in-Ok-clause-place c =
     let a = c.args in
-    at_index a.c a.k a.n a.a a.map.now (length a.mem.now) c.in-At.q c.index.result (sym c.translate.ensures ∙ c.in-At.is) c.index.ensures
+    at_index a.c a.k a.n a.a a.map.now (length a.mem.now) c.in-Ok.q c.index.result (sym c.translate.ensures ∙ c.in-Ok.is) c.index.ensures

@@ -1,4 +1,5 @@
 -- `run_pages::seek` meets its contract: a page that is remembered has the access's place. Assumes nothing.
+use Rattle.std.specs.Prelude.{Ok}
 use mathlib.Core.Path.{◌≡◌}
 use Prim.Native.Nat.{ℕ, ◌+◌, ◌*◌, ◌/◌, ◌%◌, ◌≤◌}
 use native.Mathlib.Omega.{arith}
@@ -6,7 +7,6 @@ use lib.ListN.{get_or, length}
 use denote.Enum.Declared.{tag_of}
 use Rattle.isa.specs.contracts.Kind.{the_type}
 use Rattle.address_place.specs.Place.{base, place_of}
-use Rattle.address_place.specs.declared.Place.TheVariants.{At}
 use Rattle.run_pages.specs.declared.Page.{Page}
 use Rattle.run_pages.proofs.Kept.{recalled, of_kind}
 use Rattle.run_pages.proofs.seek.Goals as goal
@@ -26,7 +26,7 @@ module _ (c : Then-page-a) where
   abbrev len : ℕ
   len = length c.args.mem.now
 
-  hit : (page.at + a % 4096 ≤ len) × (place_of c.args.c c.args.k c.args.n a c.args.map.now len ≡ At (record { 0 = base + (page.at + a % 4096) }))
+  hit : (page.at + a % 4096 ≤ len) × (place_of c.args.c c.args.k c.args.n a c.args.map.now len ≡ Ok (record { 0 = base + (page.at + a % 4096) }))
   hit =
       let g = of_kind c.args.k (a / 4096 % 64) (omega arith) in
       recalled c.args.c c.args.k c.args.n a c.args.map.now len c.args.ps.now j

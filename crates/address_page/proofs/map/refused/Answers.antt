@@ -1,34 +1,33 @@
--- `address_page::map::refused` meets its contract: what is wrong from word i on is what is wrong with the map. Assumes nothing.
-use mathlib.Core.Path.{refl, sym, ◌∙◌}
+-- `address_page::map::refused` meets its contract: what is wrong from an entry on is what is wrong with the map. Assumes nothing.
+use mathlib.Core.Path.{◌≡◌, sym, ◌∙◌}
+use Prim.Native.Nat.{◌+◌, ◌*◌}
 use native.Mathlib.Omega.{arith}
-use Rattle.address_page.proofs.Entries.{refused_odd, refused_long, refused_start, wrong_end, wrong_low, wrong_large, wrong_next}
-use Rattle.address_page.proofs.map.refused.Reads as reads
-use Rattle.address_page.proofs.map.refused.Lts as lts
+use Rattle.address_page.proofs.Entries.{refused_length, refused_start, wrong_end, wrong_low, wrong_large, wrong_next, entry_at}
+use Rattle.address_page.proofs.map.refused.Goals.{then-page-low-via-then-page-low, then-page-low-via-else-page-low+then-page-ge134217728}
 use Rattle.address_page.proofs.map.refused.Goals as goal
 
 pub returns-then-map-ne0 : goal.returns-then-map-ne0
-returns-then-map-ne0 c = sym (refused_odd _ c.if-map-ne0.true)
+returns-then-map-ne0 c = refused_length _ c.then-map-ne0.either
 
-pub returns-then-map-gt128 : goal.returns-then-map-gt128
-returns-then-map-gt128 c = sym (refused_long _ c.if-map-ne0.false c.if-map-gt128.true)
+pub loop-page-init : goal.loop-page-init
+loop-page-init c = refused_start _ c.if-map-ne0.false c.if-map-gt128.false
 
-pub loop-i-init : goal.loop-i-init
-loop-i-init c = (omega arith, refl, refused_start _ c.if-map-ne0.false c.if-map-gt128.false)
+pub returns-then-page-low : goal.returns-then-page-low
+returns-then-page-low c =
+    let l = c.loop-page in
+    let E = entry_at c.args.map.now c.as_chunks.result.0.now c.as_chunks.ensures.front c.as_chunks.ensures.front_len l.page-index c.loop-page-test.true in
+    elim c.then-page-low.branch [
+      | then-page-low-via-then-page-low w ↦ sym (l.invariant ∙ wrong_low _ _ l.low E.inside (rw E.number at w.if-page-low.true))
+      | then-page-low-via-else-page-low+then-page-ge134217728 w ↦
+          sym (l.invariant ∙ wrong_large _ _ l.low E.inside (rw E.number at w.if-page-low.false) (rw E.number at w.if-page-ge134217728.true))
+    ]
 
-pub returns-then-k-low : goal.returns-then-k-low
-returns-then-k-low c =
-    let l = c.loop-i in
-    sym (l.invariant.2 ∙ wrong_low _ l.i _ (omega arith) c.if-k-low.true)
-
-pub returns-then-k-ge134217728 : goal.returns-then-k-ge134217728
-returns-then-k-ge134217728 c =
-    let l = c.loop-i in
-    sym (l.invariant.2 ∙ wrong_large _ l.i _ (omega arith) c.if-k-low.false c.if-k-ge134217728.true)
-
-pub loop-i-preserved : goal.loop-i-preserved
-loop-i-preserved c =
-    let l = c.loop-i in
-    (omega arith, omega arith, l.invariant.2 ∙ wrong_next _ l.i _ (omega arith) c.if-k-low.false c.if-k-ge134217728.false)
+pub loop-page-preserved : goal.loop-page-preserved
+loop-page-preserved c =
+    let l = c.loop-page in
+    let E = entry_at c.args.map.now c.as_chunks.result.0.now c.as_chunks.ensures.front c.as_chunks.ensures.front_len l.page-index c.loop-page-test.true in
+    let n : 2 * (l.page-index + 1) ≡ 2 * l.page-index + 2 = omega arith in
+    rw (n, E.number) (l.invariant ∙ wrong_next _ _ l.low E.inside (rw E.number at c.if-page-low.false) (rw E.number at c.if-page-ge134217728.false))
 
 pub returns : goal.returns
-returns c = sym (c.loop-i.invariant.2 ∙ wrong_end _ c.loop-i.i _ (omega arith))
+returns c = sym (c.loop-page.invariant ∙ wrong_end _ (2 * c.loop-page.page-index) _ (omega arith))
