@@ -146,18 +146,29 @@ module _ (map : List ℕ) (i low : ℕ) where
   unfolding wrong_at wrong pages_of
   wrong_next h e g = rw (two map i h, le-ltb (get_or map i 0) low e, lt-leb (2 ^ 27) (get_or map i 0) g)
 
--- the page number of an entry, where the map is taken entry by entry
-page_from : (n i : ℕ) (map : List ℕ) → i < n → 2 * n ≤ length map → get_or (get_or (first_chunks 2 n map) i []) 0 0 ≡ get_or map (2 * i) 0
-page_from zero i map h p = absurd (omega arith)
-page_from (suc n) i [] h p = absurd (omega arith)
-page_from (suc n) i (k ∷ []) h p = absurd (omega arith)
-page_from (suc n) zero (k ∷ e ∷ rest) h p = refl
-page_from (suc n) (suc i) (k ∷ e ∷ rest) h p = rw (double i) (page_from n i rest (omega arith) (omega arith))
+-- an entry's two words, where the map is taken entry by entry
+pub record EntryAt (map : List ℕ) (entries : List (List ℕ)) (i : ℕ) : Type 0 where
+  pub inside : 2 * i + 2 ≤ length map
+  pub number : get_or (get_or entries i []) 0 0 ≡ get_or map (2 * i) 0
+  pub word : get_or (get_or entries i []) 1 0 ≡ get_or map (2 * i + 1) 0
 
-pub page_at : (map : List ℕ) (entries : List (List ℕ)) → entries ≡ first_chunks 2 (length map / 2) map → length entries ≡ length map / 2
+words_from : (n i : ℕ) (map : List ℕ) → i < n → 2 * n ≤ length map
+    → (get_or (get_or (first_chunks 2 n map) i []) 0 0 ≡ get_or map (2 * i) 0) × (get_or (get_or (first_chunks 2 n map) i []) 1 0 ≡ get_or map (2 * i + 1) 0)
+words_from zero i map h p = absurd (omega arith)
+words_from (suc n) i [] h p = absurd (omega arith)
+words_from (suc n) i (k ∷ []) h p = absurd (omega arith)
+words_from (suc n) zero (k ∷ e ∷ rest) h p = (refl, refl)
+words_from (suc n) (suc i) (k ∷ e ∷ rest) h p =
+    let o : 2 * suc i + 1 ≡ suc (suc (2 * i + 1)) = omega arith in
+    let (a, b) = words_from n i rest (omega arith) (omega arith) in
+    (rw (double i) a, rw o b)
+
+pub entry_at : (map : List ℕ) (entries : List (List ℕ)) → entries ≡ first_chunks 2 (length map / 2) map → length entries ≡ length map / 2
     → (i : ℕ) → i < length entries
-    → (get_or (get_or entries i []) 0 0 ≡ get_or map (2 * i) 0) × (2 * i + 2 ≤ length map)
-page_at map entries e l i h = (rw e (page_from (length map / 2) i map (omega arith) (omega arith)), omega arith)
+    → EntryAt map entries i
+entry_at map entries e l i h =
+    let (a, b) = words_from (length map / 2) i map (omega arith) (omega arith) in
+    record { inside = omega arith; number = rw e a; word = rw e b }
 
 -- a map of no entry is accepted
 pub empty_accepted : map_refused_of [] ≡ false

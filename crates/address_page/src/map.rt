@@ -2,26 +2,15 @@
 ghost use Rattle.std.specs.Prelude.{◌≡◌};
 ghost use Rattle.address_page.specs.Map.{lookup_of, map_refused_of};
 
-// The leaf word of the first entry that has this page number. i is where an entry's leaf word stands. A turn of the loop reads two entries: with one,
-// it is so short that its speed hangs on where the compiler puts it (docs/SPEED.md).
+// The leaf word of the first entry that has this page number.
 pub fn lookup(map: &[u64], page: u64) -> Option<u64>
     ensures { result ≡ lookup_of map.now page }
 {
-    let mut i = 1;
-    while i + 2 < map.len() {
-        if map[i - 1] == page {
-            return Some(map[i]);
+    let (entries, _) = map.as_chunks::<2>();
+    for [number, leaf] in entries {
+        if *number == page {
+            return Some(*leaf);
         }
-        if map[i + 1] == page {
-            return Some(map[i + 2]);
-        }
-        i = i + 4;
-    }
-    if map.len() <= i {
-        return None;
-    }
-    if map[i - 1] == page {
-        return Some(map[i]);
     }
     None
 }
