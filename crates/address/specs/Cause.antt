@@ -1,5 +1,8 @@
 -- The causes of an access's faults. Rules 7.3 and 7.10 of docs/HART.md.
 use Rattle.std.specs.Prelude.{ℕ}
+use Rattle.isa.specs.declared.Exception.{Exception}
+use Rattle.isa.specs.declared.Fault.TheVariants.{Misaligned, Access, Page}
+use Rattle.isa.specs.declared.Fault.{Fault}
 use Rattle.isa.specs.declared.Kind.TheVariants.{Fetch, Load, Store, Push, Pop, Swap}
 use Rattle.isa.specs.declared.Kind.{Kind}
 
@@ -29,3 +32,12 @@ page_fault_of Store = 15
 page_fault_of Push = 15
 page_fault_of Pop = 15
 page_fault_of Swap = 15
+
+abbrev pub fault_cause_of : Fault → Kind → ℕ
+fault_cause_of Misaligned k = misaligned_of k
+fault_cause_of Access k = access_fault_of k
+fault_cause_of Page k = page_fault_of k
+
+-- its cause and its tval, which is the transformed address t
+abbrev pub fault_of : Fault → Kind → (t : ℕ) → Exception
+fault_of f k t = record { cause = fault_cause_of f k; tval = t }

@@ -3,16 +3,12 @@ ghost use Rattle.std.specs.Prelude.{◌≡◌};
 ghost use Rattle.address.specs.Align.{aligned_of};
 
 use super::Virtual;
-use isa::Width;
+use isa::{Width, size};
 
+// The compiler knows that what `size::bytes` gives is a power of two: no machine division is left of this.
+#[tactic(auto, unfolding(crate::specs::Align::aligned_of))]
 pub fn aligned(w: Width, a: Virtual) -> bool
     ensures { result ≡ aligned_of w a.0 }
 {
-    let v = a.0;
-    match w {
-        Width::Byte => true,
-        Width::Half => v % 2 == 0,
-        Width::Word => v % 4 == 0,
-        Width::Double => v % 8 == 0,
-    }
+    a.0 % size::bytes(w) == 0
 }

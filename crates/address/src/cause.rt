@@ -1,45 +1,34 @@
-// The causes of an access's faults, by its kind.
+// What an access's fault leaves in mcause and mtval: its cause, by the access's kind, and the address that the rules judge.
 ghost use Rattle.std.specs.Prelude.{◌≡◌};
-ghost use Rattle.address.specs.Cause.{misaligned_of, access_fault_of, page_fault_of};
+ghost use Rattle.address.specs.Cause.{fault_cause_of, fault_of};
 
-use isa::Kind;
+use super::Virtual;
+use isa::{Exception, Fault, Kind};
 
-// Also a jump target's, which is a fetch to come.
-pub fn misaligned(k: Kind) -> u8
-    ensures { result ≡ misaligned_of k }
+// A misaligned fetch is also a jump to such an address.
+pub fn of(f: Fault, k: Kind) -> u8
+    ensures { result ≡ fault_cause_of f k }
 {
-    match k {
-        Kind::Fetch => 0,
-        Kind::Load => 4,
-        Kind::Store => 6,
-        Kind::Push => 7,
-        Kind::Pop => 7,
-        Kind::Swap => 7,
+    match (f, k) {
+        (Fault::Misaligned, Kind::Fetch) => 0,
+        (Fault::Misaligned, Kind::Load) => 4,
+        (Fault::Misaligned, Kind::Store) => 6,
+        (Fault::Misaligned, Kind::Push | Kind::Pop | Kind::Swap) => 7,
+        (Fault::Access, Kind::Fetch) => 1,
+        (Fault::Access, Kind::Load) => 5,
+        (Fault::Access, Kind::Store | Kind::Push | Kind::Pop | Kind::Swap) => 7,
+        (Fault::Page, Kind::Fetch) => 12,
+        (Fault::Page, Kind::Load) => 13,
+        (Fault::Page, Kind::Store | Kind::Push | Kind::Pop | Kind::Swap) => 15,
     }
 }
 
-pub fn access_fault(k: Kind) -> u8
-    ensures { result ≡ access_fault_of k }
+// t is the transformed address.
+pub fn fault(f: Fault, k: Kind, t: Virtual) -> Exception
+    ensures { result ≡ fault_of f k t.0 }
 {
-    match k {
-        Kind::Fetch => 1,
-        Kind::Load => 5,
-        Kind::Store => 7,
-        Kind::Push => 7,
-        Kind::Pop => 7,
-        Kind::Swap => 7,
-    }
-}
-
-pub fn page_fault(k: Kind) -> u8
-    ensures { result ≡ page_fault_of k }
-{
-    match k {
-        Kind::Fetch => 12,
-        Kind::Load => 13,
-        Kind::Store => 15,
-        Kind::Push => 15,
-        Kind::Pop => 15,
-        Kind::Swap => 15,
+    Exception {
+        cause: of(f, k),
+        tval: t.0,
     }
 }

@@ -2,8 +2,8 @@
 ghost use Rattle.std.specs.Prelude.{◌≡◌, ◌^◌, ◌<◌, ◌≤◌};
 ghost use Rattle.address.specs.Mask.{pmlen_of, mask_of, transformed_of};
 
+use super::Virtual;
 use super::control::Control;
-use super::{Virtual, control};
 use isa::{Kind, Mode};
 
 // PMLEN: the number of masked bits that a PMM means.
@@ -34,10 +34,8 @@ pub fn mask(p: u64, paged: bool, a: u64) -> u64
     }
     let m = power(64 - p);
     let low = a % m;
-    if paged {
-        if a / power(63 - p) % 2 == 1 {
-            return low + (0xffff_ffff_ffff_ffff - (m - 1));
-        }
+    if paged && a / power(63 - p) % 2 == 1 {
+        return low + (0xffff_ffff_ffff_ffff - (m - 1));
     }
     low
 }
@@ -46,14 +44,10 @@ pub fn mask(p: u64, paged: bool, a: u64) -> u64
 pub fn transform(c: Control, m: Mode, k: Kind, a: Virtual) -> Virtual
     ensures { result.0 ≡ transformed_of c m k a.0 }
 {
-    let v = a.0;
-    let pmm = control::pmm(c, m);
+    let pmm = c.pmm(m);
     // Asked first: where no bit is masked, nothing need be known of the rest.
-    if pmm == 0 {
-        return Virtual(v);
+    if pmm == 0 || c.unmasked(k) {
+        return a;
     }
-    if control::unmasked(c, k) {
-        return Virtual(v);
-    }
-    Virtual(mask(pmlen(pmm), control::paged(c, m), v))
+    Virtual(mask(pmlen(pmm), c.paged(m), a.0))
 }

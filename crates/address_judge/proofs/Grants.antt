@@ -2,29 +2,22 @@
 -- Assumes nothing.
 use mathlib.Core.Path.{◌≡◌, refl}
 use mathlib.Core.Bool.{Bool, true, false}
-use Prim.Native.Nat.{ℕ}
-use native.Mathlib.Omega.{arith}
 use borrow.Author.Tests.{not-true}
 use Rattle.address_page.specs.Kinds.{is_shadow_of, is_fetch_of, writes}
 use Rattle.address_leaf.specs.Leaf.{shadow_page_of, read_only, has_right_of, valid_leaf_of}
-use Rattle.address_judge.specs.Judge.{user_bit_of, off_read_only_of, own_page_of, readable, permits, accessed_dirty_of, guard, judge_of}
+use Rattle.address_judge.specs.Judge.{user_bit_of, off_read_only_of, own_page_of, readable, permits, accessed_dirty_of, Verdict, guard, judge_of}
+use Rattle.std.specs.Prelude.{Ok}
+use Rattle.isa.specs.declared.Fault.TheVariants.{Access, Page}
+use Rattle.isa.specs.declared.Fault.{Fault}
 use Rattle.isa.specs.declared.Kind.TheVariants.{Fetch, Load, Store, Push, Pop, Swap}
 use Rattle.isa.specs.declared.Kind.{Kind}
 use Rattle.address_page.specs.declared.Regime.{Regime}
 use Rattle.address_leaf.specs.declared.Leaf.{Leaf}
-use Rattle.address_judge.specs.declared.Verdict.TheVariants.{Granted, PageFault, AccessFault}
-use Rattle.address_judge.specs.declared.Verdict.{Verdict}
 
 -- a test before a grant held
-behind : (b : Bool) (fault rest : Verdict) → (fault ≡ Granted → ⊥) → guard b fault rest ≡ Granted → (b ≡ true) × (rest ≡ Granted)
-behind true fault rest n e = (refl, e)
-behind false fault rest n e = absurd (n e)
-
-page_fault_lem : PageFault ≡ Granted → ⊥
-page_fault_lem e = let z : ◌≡◌ {A = ℕ} 0 1 = cc in omega arith
-
-access_fault_lem : AccessFault ≡ Granted → ⊥
-access_fault_lem e = let z : ◌≡◌ {A = ℕ} 0 1 = cc in omega arith
+behind : (b : Bool) (fault : Fault) (rest : Verdict) → guard b fault rest ≡ Ok tt → (b ≡ true) × (rest ≡ Ok tt)
+behind true fault rest e = (refl, e)
+behind false fault rest e = cc
 
 -- every test of steps 5 to 8 held
 pub record Held (g : Regime) (k : Kind) (l : Leaf) : Type 0 where
@@ -36,28 +29,28 @@ pub record Held (g : Regime) (k : Kind) (l : Leaf) : Type 0 where
   pub stamped : accessed_dirty_of (writes k) l ≡ true
 
 module _ (g : Regime) (l : Leaf) where
-  pub held : (k : Kind) → judge_of g k l ≡ Granted → Held g k l
+  pub held : (k : Kind) → judge_of g k l ≡ Ok tt → Held g k l
   unfolding judge_of
   held k e =
-      let (a, e1) = behind (valid_leaf_of (has_right_of l) (shadow_page_of g.sse l) l) PageFault _ page_fault_lem e in
-      let (b, e2) = behind (user_bit_of g.mode g.sum (is_fetch_of k) l.u) PageFault _ page_fault_lem e1 in
-      let (c, e3) = behind (off_read_only_of (is_shadow_of k) (read_only l)) PageFault _ page_fault_lem e2 in
-      let (d, e4) = behind (own_page_of k (shadow_page_of g.sse l)) AccessFault _ access_fault_lem e3 in
-      let (f, e5) = behind (permits k (readable g.mxr (shadow_page_of g.sse l) l) l) PageFault _ page_fault_lem e4 in
-      let (h, e6) = behind (accessed_dirty_of (writes k) l) PageFault _ page_fault_lem e5 in
+      let (a, e1) = behind (valid_leaf_of (has_right_of l) (shadow_page_of g.sse l) l) Page _ e in
+      let (b, e2) = behind (user_bit_of g.mode g.sum (is_fetch_of k) l.u) Page _ e1 in
+      let (c, e3) = behind (off_read_only_of (is_shadow_of k) (read_only l)) Page _ e2 in
+      let (d, e4) = behind (own_page_of k (shadow_page_of g.sse l)) Access _ e3 in
+      let (f, e5) = behind (permits k (readable g.mxr (shadow_page_of g.sse l) l) l) Page _ e4 in
+      let (h, e6) = behind (accessed_dirty_of (writes k) l) Page _ e5 in
       record { valid = a; user = b; off = c; own = d; permitted = f; stamped = h }
 
   -- and where all hold, the access is granted
-  pub granted : (k : Kind) → Held g k l → judge_of g k l ≡ Granted
+  pub granted : (k : Kind) → Held g k l → judge_of g k l ≡ Ok tt
   unfolding judge_of
   granted k h = rw (h.valid, h.user, h.off, h.own, h.permitted, h.stamped)
 
   -- an ordinary store is never granted on a shadow page
-  pub store_elsewhere : judge_of g Store l ≡ Granted → shadow_page_of g.sse l ≡ false
+  pub store_elsewhere : judge_of g Store l ≡ Ok tt → shadow_page_of g.sse l ≡ false
   store_elsewhere e = not-true (shadow_page_of g.sse l) (held Store e).own
 
   -- a shadow access is granted on a shadow page alone
-  pub shadow_there : (k : Kind) → is_shadow_of k ≡ true → judge_of g k l ≡ Granted → shadow_page_of g.sse l ≡ true
+  pub shadow_there : (k : Kind) → is_shadow_of k ≡ true → judge_of g k l ≡ Ok tt → shadow_page_of g.sse l ≡ true
   shadow_there Fetch s e = cc
   shadow_there Load s e = cc
   shadow_there Store s e = cc

@@ -3,6 +3,7 @@
 use mathlib.Core.Path.{◌≡◌, refl}
 use mathlib.Core.Bool.{Bool, true, false, ◌&&◌, not}
 use borrow.Author.Tests.{not-true}
+use Rattle.std.specs.Prelude.{Ok}
 use Rattle.word.proofs.Bools.{both}
 use Rattle.address_page.specs.Kinds.{is_shadow_of, is_fetch_of, writes}
 use Rattle.isa.specs.declared.Kind.TheVariants.{Fetch, Load, Store, Push, Pop, Swap}
@@ -14,7 +15,6 @@ use Rattle.address_leaf.specs.Leaf.{shadow_page_of, read_only, has_right_of, val
 use Rattle.address_leaf.specs.declared.Leaf.{Leaf}
 use Rattle.address_judge.specs.Judge.{user_bit_of, off_read_only_of, own_page_of, readable, permits, accessed_dirty_of, decide_of, judge_of}
 use Rattle.address_judge.specs.Usual.{usual_leaf, usual_user, usual_shadow, usual_right, usual_of}
-use Rattle.address_judge.specs.declared.Verdict.TheVariants.{Granted}
 
 -- step 6
 user_bit_lem : (m : Mode) (sum fetch u : Bool) → usual_user m u ≡ true → user_bit_of m sum fetch u ≡ true
@@ -38,7 +38,7 @@ Grants k sse mxr l =
     (own_page_of k (shadow_page_of sse l))
     (permits k (readable mxr (shadow_page_of sse l) l) l)
     (accessed_dirty_of (writes k) l)
-    ≡ Granted
+    ≡ Ok tt
 
 -- a shadow page with D
 shadow_bits : (sse r w x d : Bool) → usual_shadow sse r w x d ≡ true
@@ -69,7 +69,7 @@ rights Push sse mxr r w x u d e = let (s, a, b, c, f) = shadow_bits sse r w x d 
 rights Pop sse mxr r w x u d e = let (s, a, b, c, f) = shadow_bits sse r w x d e in rw (s, b, c, f)
 rights Swap sse mxr r w x u d e = let (s, a, b, c, f) = shadow_bits sse r w x d e in rw (s, a, b, c, f)
 
-pub usual_granted : (g : Regime) (k : Kind) (l : Leaf) → usual_of g k l ≡ true → judge_of g k l ≡ Granted
+pub usual_granted : (g : Regime) (k : Kind) (l : Leaf) → usual_of g k l ≡ true → judge_of g k l ≡ Ok tt
 unfolding usual_of judge_of
 usual_granted g k l h =
     let (p, h1) = both (usual_user g.mode l.u) (usual_leaf l.v l.clear l.a && usual_right g.sse k l) h in

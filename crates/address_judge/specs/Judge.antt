@@ -1,6 +1,8 @@
 -- What an Sv39 leaf lets an access do: steps 5 to 8, in their order. Rules 7.5 to 7.8 of docs/HART.md, of which step n is 7.n.
-use Rattle.std.specs.Prelude.{Bool, true, false, ◌&&◌, ◌||◌, not}
+use Rattle.std.specs.Prelude.{Bool, true, false, ◌&&◌, ◌||◌, not, Result, Ok, Err}
 use Rattle.address_page.specs.Kinds.{is_shadow_of, is_fetch_of, writes}
+use Rattle.isa.specs.declared.Fault.TheVariants.{Access, Page}
+use Rattle.isa.specs.declared.Fault.{Fault}
 use Rattle.isa.specs.declared.Kind.TheVariants.{Fetch, Load, Store, Push, Pop, Swap}
 use Rattle.isa.specs.declared.Kind.{Kind}
 use Rattle.isa.specs.declared.Mode.TheVariants.{User, Supervisor, Machine}
@@ -8,8 +10,6 @@ use Rattle.isa.specs.declared.Mode.{Mode}
 use Rattle.address_page.specs.declared.Regime.{Regime}
 use Rattle.address_leaf.specs.Leaf.{shadow_page_of, read_only, has_right_of, valid_leaf_of}
 use Rattle.address_leaf.specs.declared.Leaf.{Leaf}
-use Rattle.address_judge.specs.declared.Verdict.TheVariants.{Granted, PageFault, AccessFault}
-use Rattle.address_judge.specs.declared.Verdict.{Verdict}
 
 -- step 6: U mode needs the U bit; S mode must not fetch from such a page and needs SUM for data. M has no pages
 abbrev pub user_bit_of : Mode → (sum fetch u : Bool) → Bool
@@ -47,20 +47,24 @@ permits Swap read l = true
 abbrev pub accessed_dirty_of : (writes : Bool) → Leaf → Bool
 accessed_dirty_of writes l = l.a && (not writes || l.d)
 
+-- the access is granted, or why it is not
+abbrev pub Verdict : Type 0
+Verdict = Result (Unit {0}) Fault
+
 -- the test must hold, else this is the verdict
-abbrev pub guard : Bool → Verdict → Verdict → Verdict
+abbrev pub guard : Bool → Fault → Verdict → Verdict
 guard true fault rest = rest
-guard false fault rest = fault
+guard false fault rest = Err fault
 
 -- the first test that fails decides
 abbrev pub decide_of : (valid user off own permits stamped : Bool) → Verdict
 decide_of valid user off own permits stamped =
-    guard valid PageFault
-    (guard user PageFault
-    (guard off PageFault
-    (guard own AccessFault
-    (guard permits PageFault
-    (guard stamped PageFault Granted)))))
+    guard valid Page
+    (guard user Page
+    (guard off Page
+    (guard own Access
+    (guard permits Page
+    (guard stamped Page (Ok tt))))))
 
 -- steps 5 to 8: whether the leaf is a page's; its U bit; a shadow access off read-only pages; pages of the access's own kind;
 -- the right that the access needs; A and D

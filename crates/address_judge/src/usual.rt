@@ -11,12 +11,7 @@ use isa::{Kind, Mode};
 fn leaf(v: bool, clear: bool, a: bool) -> bool
     ensures { result ≡ usual_leaf v clear a }
 {
-    if v {
-        if clear {
-            return a;
-        }
-    }
-    false
+    v && clear && a
 }
 
 // Step 6.
@@ -33,37 +28,19 @@ fn user(mode: Mode, u: bool) -> bool
 fn fetch(w: bool, x: bool) -> bool
     ensures { result ≡ usual_fetch w x }
 {
-    if x {
-        return !w;
-    }
-    false
+    x && !w
 }
 
 fn store(r: bool, w: bool, d: bool) -> bool
     ensures { result ≡ usual_store r w d }
 {
-    if w {
-        if r {
-            return d;
-        }
-    }
-    false
+    w && r && d
 }
 
 fn shadow(sse: bool, r: bool, w: bool, x: bool, d: bool) -> bool
     ensures { result ≡ usual_shadow sse r w x d }
 {
-    if sse {
-        if d {
-            if w {
-                if r {
-                    return false;
-                }
-                return !x;
-            }
-        }
-    }
-    false
+    sse && d && w && !r && !x
 }
 
 // Steps 5, 7 and 8.
@@ -74,21 +51,7 @@ fn right(sse: bool, k: Kind, e: u64) -> bool
         Kind::Fetch => fetch(e / 4 % 2 == 1, e / 8 % 2 == 1),
         Kind::Load => e / 2 % 2 == 1,
         Kind::Store => store(e / 2 % 2 == 1, e / 4 % 2 == 1, e / 128 % 2 == 1),
-        Kind::Push => shadow(
-            sse,
-            e / 2 % 2 == 1,
-            e / 4 % 2 == 1,
-            e / 8 % 2 == 1,
-            e / 128 % 2 == 1,
-        ),
-        Kind::Pop => shadow(
-            sse,
-            e / 2 % 2 == 1,
-            e / 4 % 2 == 1,
-            e / 8 % 2 == 1,
-            e / 128 % 2 == 1,
-        ),
-        Kind::Swap => shadow(
+        Kind::Push | Kind::Pop | Kind::Swap => shadow(
             sse,
             e / 2 % 2 == 1,
             e / 4 % 2 == 1,
@@ -98,15 +61,11 @@ fn right(sse: bool, k: Kind, e: u64) -> bool
     }
 }
 
+#[tactic(auto, unfolding(crate::specs::Usual::usual_of))]
 pub fn grants(g: Regime, k: Kind, e: u64) -> bool
     ensures { result ≡ usual_of g k (leaf_of e) }
 {
-    let mode = g.mode;
-    if user(mode, e / 16 % 2 == 1) {
-        if leaf(e % 2 == 1, e / 0x40_0000_0000_0000 == 0, e / 64 % 2 == 1) {
-            return right(g.sse, k, e);
-        }
-        return false;
-    }
-    false
+    user(g.mode, e / 16 % 2 == 1)
+        && leaf(e % 2 == 1, e / 0x40_0000_0000_0000 == 0, e / 64 % 2 == 1)
+        && right(g.sse, k, e)
 }

@@ -37,59 +37,26 @@ pub fn bits(e: u64) -> Leaf
 pub fn shadow_page(sse: bool, l: Leaf) -> bool
     ensures { result ≡ shadow_page_of sse l }
 {
-    if sse {
-        if l.w {
-            if l.r {
-                return false;
-            }
-            return !l.x;
-        }
-    }
-    false
+    sse && l.w && !l.r && !l.x
 }
 
 // R alone.
 pub fn read_only(l: Leaf) -> bool
     ensures { result ≡ read_only l }
 {
-    if l.r {
-        if l.w {
-            return false;
-        }
-        return !l.x;
-    }
-    false
+    l.r && !l.w && !l.x
 }
 
 // R, W and X are not all 0.
 pub fn has_right(l: Leaf) -> bool
     ensures { result ≡ has_right_of l }
 {
-    if l.r {
-        return true;
-    }
-    if l.w {
-        return true;
-    }
-    l.x
+    l.r || l.w || l.x
 }
 
 // Step 5. W without R is a shadow page's alone.
 pub fn valid_leaf(right: bool, shadow: bool, l: Leaf) -> bool
     ensures { result ≡ valid_leaf_of right shadow l }
 {
-    if l.v {
-        if right {
-            if l.clear {
-                if l.w {
-                    if l.r {
-                        return true;
-                    }
-                    return shadow;
-                }
-                return true;
-            }
-        }
-    }
-    false
+    l.v && right && l.clear && (!l.w || l.r || shadow)
 }

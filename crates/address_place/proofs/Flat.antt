@@ -12,18 +12,19 @@ use Rattle.isa.specs.Size.{size_of}
 use Rattle.isa.specs.declared.Width.TheVariants.{Word}
 use Rattle.isa.specs.declared.Width.{Width}
 use Rattle.address_page.specs.Kinds.{is_fetch_of, is_shadow_of}
+use Rattle.std.specs.Prelude.{Ok, Err}
+use Rattle.isa.specs.declared.Fault.TheVariants.{Misaligned}
 use Rattle.isa.specs.declared.Kind.TheVariants.{Fetch, Load, Store, Push, Pop, Swap}
 use Rattle.isa.specs.declared.Kind.{Kind}
 use Rattle.isa.specs.declared.Mode.{Mode}
 use Rattle.address.proofs.Masking.{mask_none}
 use Rattle.address.specs.Align.{aligned_of}
-use Rattle.address.specs.Cause.{misaligned_of}
+use Rattle.address.specs.Cause.{fault_of}
 use Rattle.address.specs.Control.{effective_mode_of, pmm_of, paged_of, unmasked_of, bare_of, flat_of}
 use Rattle.address.specs.Mask.{pmlen_of, transformed_of}
 use Rattle.address.specs.declared.control.Control.{Control}
 use Rattle.address_place.specs.Place.{base, Within, inside_of, plain_place_of, reached_of, place_of, flat_place_of}
 use Rattle.address_place.specs.declared.Physical.{Physical}
-use Rattle.address_place.specs.declared.Place.TheVariants.{At, Fault}
 use Rattle.address_place.proofs.Reach.{behind, inside_at}
 
 -- the two steps in their order
@@ -32,15 +33,15 @@ module _ (k : Kind) (w : Width) (a len : ℕ) where
   unfolding flat_place_of
   flat_aligned e = rw e
 
-  pub flat_misaligned : aligned_of w a ≡ false → Fault (misaligned_of k) a ≡ flat_place_of k w a len
+  pub flat_misaligned : aligned_of w a ≡ false → Err (fault_of Misaligned k a) ≡ flat_place_of k w a len
   unfolding flat_place_of
   flat_misaligned e = rw e
 
 -- a place that they give lies in memory
-module _ (k : Kind) (w : Width) (a len : ℕ) (q : Physical) (at : flat_place_of k w a len ≡ At q) where
+module _ (k : Kind) (w : Width) (a len : ℕ) (q : Physical) (at : flat_place_of k w a len ≡ Ok q) where
   pub flat_within : Within len w q.0
   unfolding flat_place_of
-  flat_within = (inside_at k w len q a a (behind (aligned_of w a) (inside_of k w len a a) (misaligned_of k) a q at).1).1
+  flat_within = (inside_at k w len q a a (behind (aligned_of w a) (inside_of k w len a a) (fault_of Misaligned k a) q at).1).1
 
   pub flat_index : q.0 - base + size_of w ≤ len
   flat_index = omega (arith, flat_within.0, flat_within.1)

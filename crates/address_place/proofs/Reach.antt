@@ -9,7 +9,7 @@ use lib.Dec.{leb}
 use borrow.Author.Tests.{leb-true, eqb-true}
 use Rattle.word.proofs.Bools.{both}
 use Rattle.word.proofs.Choices.{first, second}
-use Rattle.std.specs.Prelude.{Option, Some, None}
+use Rattle.std.specs.Prelude.{Option, Some, None, Ok, Err}
 use Rattle.word.specs.Choice.{pick}
 use Rattle.isa.specs.Size.{size_of}
 use Rattle.isa.specs.declared.Width.TheVariants.{Byte, Half, Word, Double}
@@ -17,39 +17,33 @@ use Rattle.isa.specs.declared.Width.{Width}
 use Rattle.address_judge.proofs.Grants.{store_elsewhere, shadow_there}
 use Rattle.address_page.specs.Kinds.{is_shadow_of}
 use Rattle.address_leaf.specs.Leaf.{leaf_of, shadow_page_of}
-use Rattle.address_judge.specs.Judge.{judge_of}
+use Rattle.address_judge.specs.Judge.{Verdict, judge_of}
 use Rattle.address_page.specs.Map.{lookup_of}
 use Rattle.isa.specs.declared.Kind.TheVariants.{Store}
+use Rattle.isa.specs.declared.Exception.{Exception}
+use Rattle.isa.specs.declared.Fault.TheVariants.{Misaligned, Access, Page}
 use Rattle.isa.specs.declared.Kind.{Kind}
 use Rattle.isa.specs.declared.Mode.{Mode}
 use Rattle.address_page.specs.declared.Regime.{Regime}
-use Rattle.address_judge.specs.declared.Verdict.TheVariants.{Granted, PageFault, AccessFault}
-use Rattle.address_judge.specs.declared.Verdict.{Verdict}
 use Rattle.address.specs.Align.{aligned_of}
-use Rattle.address.specs.Cause.{misaligned_of, access_fault_of, page_fault_of}
+use Rattle.address.specs.Cause.{fault_of}
 use Rattle.address.specs.Control.{effective_mode_of, paged_of, regime_of}
 use Rattle.address.specs.Mask.{transformed_of}
 use Rattle.address.specs.declared.control.Control.{Control}
-use Rattle.address_place.specs.Place.{base, within_of, Within, inside_of, canonical_of, page_number, physical_of, settle_of, through_of, paged_place_of}
+use Rattle.address_place.specs.Place.{PlaceOrFault, base, within_of, Within, inside_of, canonical_of, page_number, physical_of, settle_of, through_of, paged_place_of}
 use Rattle.address_place.specs.Place.{plain_place_of, reached_of, place_of}
 use Rattle.address_place.specs.declared.Physical.{Physical}
-use Rattle.address_place.specs.declared.Place.TheVariants.{At, Fault}
-use Rattle.address_place.specs.declared.Place.{Place}
 
--- a fault is no place
-never : {A : Type 0} (c t : ℕ) (q : Physical) → Fault c t ≡ At q → A
-never c t q e = absurd (let z : ◌≡◌ {A = ℕ} 0 1 = cc in omega arith)
-
-pub behind : (b : Bool) (rest : Place) (c t : ℕ) (q : Physical) → pick b rest (Fault c t) ≡ At q → (b ≡ true) × (rest ≡ At q)
-behind true rest c t q e = (refl, e)
-behind false rest c t q e = never c t q e
+pub behind : (b : Bool) (rest : PlaceOrFault) (x : Exception) (q : Physical) → pick b rest (Err x) ≡ Ok q → (b ≡ true) × (rest ≡ Ok q)
+behind true rest x q e = (refl, e)
+behind false rest x q e = cc
 
 -- an access through a page: the leaf that granted it, and where it leads
 pub record Paged (g : Regime) (k : Kind) (w : Width) (t : ℕ) (map : List ℕ) (len : ℕ) (q : Physical) : Type 0 where
   pub leaf : ℕ
   pub canonical : canonical_of t ≡ true
   pub entry : lookup_of map (page_number t) ≡ Some leaf
-  pub granted : judge_of g k (leaf_of leaf) ≡ Granted
+  pub granted : judge_of g k (leaf_of leaf) ≡ Ok tt
   pub frame : q.0 ≡ physical_of leaf t
   pub within : Within len w q.0
 
@@ -60,42 +54,41 @@ pub record Plain (k : Kind) (w : Width) (t len : ℕ) (q : Physical) : Type 0 wh
   pub within : Within len w q.0
 
 module _ (k : Kind) (w : Width) (len : ℕ) (q : Physical) where
-  pub inside_at : (p t : ℕ) → inside_of k w len p t ≡ At q → (q.0 ≡ p) × Within len w q.0
+  pub inside_at : (p t : ℕ) → inside_of k w len p t ≡ Ok q → (q.0 ≡ p) × Within len w q.0
   unfolding inside_of within_of
   inside_at p t e =
-      let (b, f) = behind (within_of len p (size_of w)) (At (record { 0 = p })) (access_fault_of k) t q e in
+      let (b, f) = behind (within_of len p (size_of w)) (Ok (record { 0 = p })) (fault_of Access k t) q e in
       let (l, u) = both (leb base p) (leb (p + size_of w) (base + len)) b in
       let x : p ≡ q.0 = cc in
       (sym x, (rw (← x) (leb-true base p l), rw (← x) (leb-true (p + size_of w) (base + len) u)))
 
-  settle_at : (v : Verdict) (p t : ℕ) → settle_of v k w len p t ≡ At q → (v ≡ Granted) × (q.0 ≡ p) × Within len w q.0
+  settle_at : (v : Verdict) (p t : ℕ) → settle_of v k w len p t ≡ Ok q → (v ≡ Ok tt) × (q.0 ≡ p) × Within len w q.0
   unfolding settle_of
-  settle_at Granted p t e =
+  settle_at (Ok granted) p t e =
       let (s, i) = inside_at p t e in
       (refl, s, i)
-  settle_at PageFault p t e = never (page_fault_of k) t q e
-  settle_at AccessFault p t e = never (access_fault_of k) t q e
+  settle_at (Err f) p t e = cc
 
   through_at : (g : Regime) (t : ℕ) (map : List ℕ) (f : Option ℕ) → canonical_of t ≡ true → lookup_of map (page_number t) ≡ f
-      → through_of f g k w len t ≡ At q → Paged g k w t map len q
+      → through_of f g k w len t ≡ Ok q → Paged g k w t map len q
   unfolding through_of
-  through_at g t map None c s e = never (page_fault_of k) t q e
+  through_at g t map None c s e = cc
   through_at g t map (Some l) c s e =
       let (v, p, i) = settle_at (judge_of g k (leaf_of l)) (physical_of l t) t e in
       record { leaf = l; canonical = c; entry = s; granted = v; frame = p; within = i }
 
-  pub paged_at : (g : Regime) (t : ℕ) (map : List ℕ) → paged_place_of g k w t map len ≡ At q → Paged g k w t map len q
+  pub paged_at : (g : Regime) (t : ℕ) (map : List ℕ) → paged_place_of g k w t map len ≡ Ok q → Paged g k w t map len q
   unfolding paged_place_of
   paged_at g t map e =
-      let (c, f) = behind (canonical_of t) (through_of (lookup_of map (page_number t)) g k w len t) (page_fault_of k) t q e in
+      let (c, f) = behind (canonical_of t) (through_of (lookup_of map (page_number t)) g k w len t) (fault_of Page k t) q e in
       through_at g t map (lookup_of map (page_number t)) c refl f
 
-  plain_at : (t : ℕ) → plain_place_of k w t len ≡ At q → Plain k w t len q
+  plain_at : (t : ℕ) → plain_place_of k w t len ≡ Ok q → Plain k w t len q
   unfolding plain_place_of
   plain_at t = go (is_shadow_of k) refl
     where
-      go : (b : Bool) → is_shadow_of k ≡ b → pick b (Fault 7 t) (inside_of k w len t t) ≡ At q → Plain k w t len q
-      go true s e = never 7 t q e
+      go : (b : Bool) → is_shadow_of k ≡ b → pick b (Err (record { cause = 7; tval = t })) (inside_of k w len t t) ≡ Ok q → Plain k w t len q
+      go true s e = cc
       go false s e =
           let (p, i) = inside_at t t e in
           record { ordinary = s; same = p; within = i }
@@ -108,22 +101,22 @@ in_page Word t h = omega arith
 in_page Double t h = omega arith
 
 -- a place that was given: what follows for the effective mode m and the transformed address t
-module _ (c : Control) (k : Kind) (w : Width) (a : ℕ) (map : List ℕ) (len : ℕ) (q : Physical) (at : place_of c k w a map len ≡ At q) where
+module _ (c : Control) (k : Kind) (w : Width) (a : ℕ) (map : List ℕ) (len : ℕ) (q : Physical) (at : place_of c k w a map len ≡ Ok q) where
   abbrev m : Mode
   m = effective_mode_of c k
 
   abbrev t : ℕ
   t = transformed_of c (effective_mode_of c k) k a
 
-  abbrev paged : Place
+  abbrev paged : PlaceOrFault
   paged = paged_place_of (regime_of c m) k w t map len
 
-  abbrev plain : Place
+  abbrev plain : PlaceOrFault
   plain = plain_place_of k w t len
 
-  reached : (aligned_of w t ≡ true) × (pick (paged_of m c.sv39) paged plain ≡ At q)
+  reached : (aligned_of w t ≡ true) × (pick (paged_of m c.sv39) paged plain ≡ Ok q)
   unfolding place_of reached_of
-  reached = behind (aligned_of w t) (pick (paged_of m c.sv39) paged plain) (misaligned_of k) t q at
+  reached = behind (aligned_of w t) (pick (paged_of m c.sv39) paged plain) (fault_of Misaligned k t) q at
 
   -- the access is aligned
   pub place_aligned : t % size_of w ≡ 0
@@ -164,11 +157,11 @@ module _ (c : Control) (k : Kind) (w : Width) (a : ℕ) (map : List ℕ) (len : 
 
   -- under Sv39 the leaf that lookup gives has granted it
   pub place_granted : paged_of m c.sv39 ≡ true
-      → (e : ℕ) → lookup_of map (page_number t) ≡ Some e → judge_of (regime_of c m) k (leaf_of e) ≡ Granted
+      → (e : ℕ) → lookup_of map (page_number t) ≡ Some e → judge_of (regime_of c m) k (leaf_of e) ≡ Ok tt
   place_granted p e found =
       let P = place_paged p in
       let s : P.leaf ≡ e = same_leaf P.leaf e (sym P.entry ∙ found) in
-      subst (λ (x : ℕ). judge_of (regime_of c m) k (leaf_of x) ≡ Granted) s P.granted
+      subst (λ (x : ℕ). judge_of (regime_of c m) k (leaf_of x) ≡ Ok tt) s P.granted
     where
       same_leaf : (x y : ℕ) → Some x ≡ Some y → x ≡ y
       same_leaf x y h = cc
@@ -178,7 +171,7 @@ module _ (c : Control) (k : Kind) (w : Width) (a : ℕ) (map : List ℕ) (len : 
       → (e : ℕ) → lookup_of map (page_number t) ≡ Some e → shadow_page_of c.sse (leaf_of e) ≡ false
   store_off_shadow s p e found =
       store_elsewhere (regime_of c m) (leaf_of e)
-      (subst (λ (x : Kind). judge_of (regime_of c m) x (leaf_of e) ≡ Granted) s (place_granted p e found))
+      (subst (λ (x : Kind). judge_of (regime_of c m) x (leaf_of e) ≡ Ok tt) s (place_granted p e found))
 
   -- a shadow access is given a place under Sv39 alone
   pub shadow_paged : is_shadow_of k ≡ true → paged_of m c.sv39 ≡ true

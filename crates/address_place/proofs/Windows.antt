@@ -6,6 +6,7 @@ use mathlib.Core.Path.{◌≡◌, sym, ◌∙◌}
 use Prim.Native.Nat.{ℕ, ◌+◌, ◌-◌, ◌%◌, ◌^◌, ◌<◌, ◌≤◌}
 use native.Mathlib.Omega.{arith}
 use borrow.Author.Tests.{eq-eqb, not-false}
+use Rattle.std.specs.Prelude.{Ok}
 use Rattle.isa.specs.declared.Width.TheVariants.{Word}
 use Rattle.isa.specs.declared.Kind.TheVariants.{Fetch}
 use Rattle.address.specs.Align.{aligned_of}
@@ -15,7 +16,6 @@ use Rattle.address.specs.declared.control.Control.{Control}
 use Rattle.address_place.specs.Place.{base, paged_place_of, reached_of, place_of}
 use Rattle.address_place.specs.Window.{distance, Shows}
 use Rattle.address_place.specs.declared.Physical.{Physical}
-use Rattle.address_place.specs.declared.Place.TheVariants.{At}
 use Rattle.address_place.specs.declared.window.Window.{Window}
 use Rattle.address_place.proofs.Flat.{fetch_flat, flat_aligned}
 use Rattle.address_place.proofs.Page.{inside_there, page_decides}
@@ -50,7 +50,7 @@ module _ (c : Control) (a : ℕ) (map : List ℕ) (len : ℕ) (paged : bare_of c
   fetch_paged = rw (word_aligned a aligned, not-false (paged_of (effective_mode_of c Fetch) c.sv39) paged)
 
 module _ (c : Control) (low : ℕ) (map : List ℕ) (len : ℕ) (q : Physical) (paged : bare_of c ≡ false) (start : low % 4096 ≡ 0)
-    (at : place_of c Fetch Word low map len ≡ At q) (most : len ≤ 2 ^ 20) (from : base ≤ q.0) (frame : q.0 - base + 4096 ≤ len) where
+    (at : place_of c Fetch Word low map len ≡ Ok q) (most : len ≤ 2 ^ 20) (from : base ≤ q.0) (frame : q.0 - base + 4096 ≤ len) where
   abbrev leaf : Window
   leaf = record { low = low; span = 4093; at = q.0 - base }
 

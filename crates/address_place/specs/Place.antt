@@ -4,26 +4,29 @@
 --
 -- Below, c is what the hart's mode and CSRs say, m the effective mode, a the address as the program gives it, t the transformed
 -- one, which is also tval, p the physical one, and len the number of bytes of memory.
-use Rattle.std.specs.Prelude.{Bool, ◌&&◌, List, ℕ, ◌+◌, ◌-◌, ◌*◌, ◌/◌, ◌%◌, ◌^◌, ◌≤◌, eqb, leb, Option, Some, None}
+use Rattle.std.specs.Prelude.{Bool, ◌&&◌, List, ℕ, ◌+◌, ◌-◌, ◌*◌, ◌/◌, ◌%◌, ◌^◌, ◌≤◌, eqb, leb, Option, Some, None, Result, Ok, Err}
 use Rattle.word.specs.Choice.{pick}
 use Rattle.isa.specs.Size.{size_of}
 use Rattle.isa.specs.declared.Width.{Width}
 use Rattle.address_page.specs.Kinds.{is_shadow_of}
 use Rattle.address_leaf.specs.Leaf.{leaf_of}
-use Rattle.address_judge.specs.Judge.{judge_of}
+use Rattle.address_judge.specs.Judge.{Verdict, judge_of}
 use Rattle.address_page.specs.Map.{lookup_of}
+use Rattle.isa.specs.declared.Exception.{Exception}
+use Rattle.isa.specs.declared.Fault.TheVariants.{Misaligned, Access, Page}
 use Rattle.isa.specs.declared.Kind.{Kind}
 use Rattle.isa.specs.declared.Mode.{Mode}
 use Rattle.address_page.specs.declared.Regime.{Regime}
-use Rattle.address_judge.specs.declared.Verdict.{Verdict}
-use Rattle.address_judge.specs.declared.Verdict.TheVariants.{Granted, PageFault, AccessFault}
 use Rattle.address.specs.Align.{aligned_of}
-use Rattle.address.specs.Cause.{misaligned_of, access_fault_of, page_fault_of}
+use Rattle.address.specs.Cause.{fault_of}
 use Rattle.address.specs.Control.{effective_mode_of, paged_of, regime_of}
 use Rattle.address.specs.Mask.{transformed_of}
 use Rattle.address.specs.declared.control.Control.{Control}
-use Rattle.address_place.specs.declared.Place.{Place}
-use Rattle.address_place.specs.declared.Place.TheVariants.{At, Fault}
+use Rattle.address_place.specs.declared.Physical.{Physical}
+
+-- where an access goes, or why it does not
+abbrev pub PlaceOrFault : Type 0
+PlaceOrFault = Result Physical Exception
 
 -- memory's first byte has this physical address
 abbrev pub base : ℕ
@@ -38,8 +41,8 @@ abbrev pub Within : (len : ℕ) → Width → (p : ℕ) → Type 0
 Within len w p = (base ≤ p) × (p + size_of w ≤ base + len)
 
 -- step 9: a byte outside memory is an access fault
-unfoldable pub inside_of : Kind → Width → (len p t : ℕ) → Place
-inside_of k w len p t = pick (within_of len p (size_of w)) (At (record { 0 = p })) (Fault (access_fault_of k) t)
+unfoldable pub inside_of : Kind → Width → (len p t : ℕ) → PlaceOrFault
+inside_of k w len p t = pick (within_of len p (size_of w)) (Ok (record { 0 = p })) (Err (fault_of Access k t))
 
 -- step 5: bits 63:39 must equal bit 38
 abbrev pub canonical_of : ℕ → Bool
@@ -58,36 +61,35 @@ abbrev pub physical_of : (e t : ℕ) → ℕ
 physical_of e t = frame_of e * 4096 + t % 4096
 
 -- steps 5 to 8 give a page fault or an access fault, or lead on to step 9
-unfoldable pub settle_of : Verdict → Kind → Width → (len p t : ℕ) → Place
-settle_of Granted k w len p t = inside_of k w len p t
-settle_of PageFault k w len p t = Fault (page_fault_of k) t
-settle_of AccessFault k w len p t = Fault (access_fault_of k) t
+unfoldable pub settle_of : Verdict → Kind → Width → (len p t : ℕ) → PlaceOrFault
+settle_of (Ok granted) k w len p t = inside_of k w len p t
+settle_of (Err f) k w len p t = Err (fault_of f k t)
 
 -- step 5: page fault if no entry has this page number; else steps 5 to 9 at its leaf
-unfoldable pub through_of : Option ℕ → Regime → Kind → Width → (len t : ℕ) → Place
-through_of None g k w len t = Fault (page_fault_of k) t
+unfoldable pub through_of : Option ℕ → Regime → Kind → Width → (len t : ℕ) → PlaceOrFault
+through_of None g k w len t = Err (fault_of Page k t)
 through_of (Some e) g k w len t = settle_of (judge_of g k (leaf_of e)) k w len (physical_of e t) t
 
 -- steps 5 to 9, under Sv39
-unfoldable pub paged_place_of : Regime → Kind → Width → (t : ℕ) → (map : List ℕ) → (len : ℕ) → Place
+unfoldable pub paged_place_of : Regime → Kind → Width → (t : ℕ) → (map : List ℕ) → (len : ℕ) → PlaceOrFault
 paged_place_of g k w t map len =
-    pick (canonical_of t) (through_of (lookup_of map (page_number t)) g k w len t) (Fault (page_fault_of k) t)
+    pick (canonical_of t) (through_of (lookup_of map (page_number t)) g k w len t) (Err (fault_of Page k t))
 
 -- in M or Bare: step 4, a shadow access is cause 7; then step 9
-unfoldable pub plain_place_of : Kind → Width → (t len : ℕ) → Place
-plain_place_of k w t len = pick (is_shadow_of k) (Fault 7 t) (inside_of k w len t t)
+unfoldable pub plain_place_of : Kind → Width → (t len : ℕ) → PlaceOrFault
+plain_place_of k w t len = pick (is_shadow_of k) (Err (record { cause = 7; tval = t })) (inside_of k w len t t)
 
 -- steps 3 to 9, in their order
-unfoldable pub reached_of : Control → Mode → Kind → Width → (t : ℕ) → (map : List ℕ) → (len : ℕ) → Place
+unfoldable pub reached_of : Control → Mode → Kind → Width → (t : ℕ) → (map : List ℕ) → (len : ℕ) → PlaceOrFault
 reached_of c m k w t map len =
     pick (aligned_of w t)
     (pick (paged_of m c.sv39) (paged_place_of (regime_of c m) k w t map len) (plain_place_of k w t len))
-    (Fault (misaligned_of k) t)
+    (Err (fault_of Misaligned k t))
 
 -- steps 1 to 9
-unfoldable pub place_of : Control → Kind → Width → (a : ℕ) → (map : List ℕ) → (len : ℕ) → Place
+unfoldable pub place_of : Control → Kind → Width → (a : ℕ) → (map : List ℕ) → (len : ℕ) → PlaceOrFault
 place_of c k w a map len = reached_of c (effective_mode_of c k) k w (transformed_of c (effective_mode_of c k) k a) map len
 
 -- steps 3 and 9, of an access that is neither masked nor translated
-unfoldable pub flat_place_of : Kind → Width → (a len : ℕ) → Place
-flat_place_of k w a len = pick (aligned_of w a) (inside_of k w len a a) (Fault (misaligned_of k) a)
+unfoldable pub flat_place_of : Kind → Width → (a len : ℕ) → PlaceOrFault
+flat_place_of k w a len = pick (aligned_of w a) (inside_of k w len a a) (Err (fault_of Misaligned k a))

@@ -1,11 +1,10 @@
 -- What a window shows: where fetches from its addresses find their words. Rule 10.10 of docs/HART.md.
-use Rattle.std.specs.Prelude.{Bool, List, ◌≡◌, ℕ, ◌+◌, ◌-◌, ◌%◌, ◌^◌, ◌<◌, ◌≤◌, ltb}
+use Rattle.std.specs.Prelude.{Bool, List, ◌≡◌, ℕ, ◌+◌, ◌-◌, ◌%◌, ◌^◌, ◌<◌, ◌≤◌, ltb, Ok}
 use Rattle.word.specs.Sum.{difference_of}
 use Rattle.isa.specs.declared.Width.TheVariants.{Word}
 use Rattle.isa.specs.declared.Kind.TheVariants.{Fetch}
 use Rattle.address.specs.declared.control.Control.{Control}
 use Rattle.address_place.specs.Place.{base, place_of}
-use Rattle.address_place.specs.declared.Place.TheVariants.{At}
 use Rattle.address_place.specs.declared.window.Window.{Window}
 
 -- how far address a is from the window's first
@@ -20,4 +19,4 @@ covers_of v a = ltb (distance v a) v.span
 pub record Shows (v : Window) (c : Control) (map : List ℕ) (len : ℕ) : Type 0 where
   pub fits : v.at + v.span ≤ len - 3
   pub place : (a : ℕ) → a < 2 ^ 64 → distance v a < v.span → a % 4 ≡ 0
-      → place_of c Fetch Word a map len ≡ At (record { 0 = base + (v.at + distance v a) })
+      → place_of c Fetch Word a map len ≡ Ok (record { 0 = base + (v.at + distance v a) })

@@ -34,10 +34,3 @@ impl Physical {
         (self.0 - BASE) as usize
     }
 }
-
-// Where an access goes, or why it does not: cause and tval.
-#[derive(Clone, Copy)]
-pub enum Place {
-    At(Physical),
-    Fault(u8, u64),
-}

@@ -5,9 +5,9 @@ ghost use Rattle.address.specs.declared.control.Control as declared;
 ghost use Rattle.address.specs.Control.{bare_of};
 ghost use Rattle.address_place.specs.Window.{covers_of, Shows};
 
-use super::{BASE, Place, steps};
+use super::{BASE, steps};
+use address::Virtual;
 use address::control::Control;
-use address::{Virtual, control};
 use word::sum;
 
 // The addresses from `low` on, `span` of them. The first of them stands at index `at` of memory.
@@ -56,20 +56,18 @@ fn page(c: Control, a: u64, map: &[u64], mem: &[u8]) -> Window
     ensures { Shows result c map.now (length mem.now) }
 {
     let low = a - a % 4096;
-    match steps::fetch(c, Virtual(low), map, mem) {
-        Place::At(q) => {
-            let at = q.0 - BASE;
-            if at + 4096 <= mem.len() as u64 {
-                return Window {
-                    low,
-                    span: 4093,
-                    at,
-                };
-            }
-            closed()
-        }
-        Place::Fault(_, _) => closed(),
+    let Ok(q) = steps::fetch(c, Virtual(low), map, mem) else {
+        return closed();
+    };
+    let at = q.0 - BASE;
+    if at + 4096 <= mem.len() as u64 {
+        return Window {
+            low,
+            span: 4093,
+            at,
+        };
     }
+    closed()
 }
 
 // The window that address a is in, or one that does not cover it.
@@ -77,7 +75,7 @@ pub fn around(c: Control, a: u64, map: &[u64], mem: &[u8]) -> Window
     requires { length mem.now ≤ 2 ^ 20 }
     ensures { Shows result c map.now (length mem.now) }
 {
-    if control::bare(c) {
+    if c.bare() {
         return whole(c, mem.len() as u64);
     }
     page(c, a, map, mem)

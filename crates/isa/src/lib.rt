@@ -41,6 +41,14 @@ pub enum Kind {
     Swap,
 }
 
+// Why an access is refused: its address is no multiple of its size, or what stands there, or its page, is not for it.
+#[derive(Clone, Copy)]
+pub enum Fault {
+    Misaligned,
+    Access,
+    Page,
+}
+
 // The privilege modes.
 #[derive(Clone, Copy)]
 pub enum Mode {

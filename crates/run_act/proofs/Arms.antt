@@ -2,6 +2,7 @@
 -- Assumes nothing.
 --
 -- Below, a and r are the values of the two registers, v the form's number, P what is known of the pages besides.
+use Rattle.std.specs.Prelude.{Ok, Err}
 use mathlib.Core.Bool.{Bool, true, false}
 use mathlib.Core.List.{List}
 use mathlib.Core.Path.{◌≡◌, refl, ap}
@@ -19,9 +20,7 @@ use Rattle.isa.specs.declared.Width.TheVariants.{Double}
 use Rattle.isa.specs.declared.WordOperation.{WordOperation}
 use Rattle.address.specs.Stack.{push_of}
 use Rattle.address.specs.declared.control.Control.{Control}
-use Rattle.address_place.specs.Place.{place_of}
-use Rattle.address_place.specs.declared.Place.{Place}
-use Rattle.address_place.specs.declared.Place.TheVariants.{At, Fault}
+use Rattle.address_place.specs.Place.{place_of, PlaceOrFault}
 use Rattle.step_effect.specs.Compute.{operation_of, word_operation_of, condition_of}
 use Rattle.step_effect.specs.Jump.{jal_of, jalr_of, branch_of, even_of}
 use Rattle.step_effect.specs.Register.{put_of}
@@ -36,15 +35,15 @@ use Rattle.run_act.specs.Act.{Touched}
 use Rattle.run_act.specs.declared.Acted.{Acted}
 use Rattle.run_act.proofs.Ways.{undone_does, wrote_does, does_as, still, untouched}
 
-push_parts : (p : Place) (rd a b ssp next : ℕ) (m : List ℕ) → at_of access.Push p rd a b ssp next m ≡ at_of access.Push p 0 0 b ssp next m
+push_parts : (p : PlaceOrFault) (rd a b ssp next : ℕ) (m : List ℕ) → at_of access.Push p rd a b ssp next m ≡ at_of access.Push p 0 0 b ssp next m
 unfolding at_of done_of
-push_parts (At q) rd a b ssp next m = refl
-push_parts (Fault cause tval) rd a b ssp next m = refl
+push_parts (Ok q) rd a b ssp next m = refl
+push_parts (Err fault) rd a b ssp next m = refl
 
-pop_parts : (p : Place) (rd a b ssp next : ℕ) (m : List ℕ) → at_of access.Pop p rd a b ssp next m ≡ at_of access.Pop p 0 a 0 ssp next m
+pop_parts : (p : PlaceOrFault) (rd a b ssp next : ℕ) (m : List ℕ) → at_of access.Pop p rd a b ssp next m ≡ at_of access.Pop p 0 a 0 ssp next m
 unfolding at_of done_of
-pop_parts (At q) rd a b ssp next m = refl
-pop_parts (Fault cause tval) rd a b ssp next m = refl
+pop_parts (Ok q) rd a b ssp next m = refl
+pop_parts (Err fault) rd a b ssp next m = refl
 
 -- what JALR says where no landing pad is expected is what JAL says
 padless : (d aligned : Bool) (rd link to cause tval pc' : ℕ) (x w m x' : List ℕ)

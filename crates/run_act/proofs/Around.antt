@@ -1,5 +1,6 @@
 -- An access at its place: it lies in memory, and a store leaves every byte but those of the eight around it.
 -- Assumes nothing.
+use Rattle.std.specs.Prelude.{Ok}
 use mathlib.Core.List.{List}
 use mathlib.Core.Path.{◌≡◌}
 use Prim.Native.Nat.{ℕ, ◌+◌, ◌-◌, ◌/◌, ◌%◌, ◌≤◌}
@@ -16,7 +17,6 @@ use Rattle.address.specs.Mask.{transformed_of}
 use Rattle.address.specs.Control.{effective_mode_of}
 use Rattle.address.specs.declared.control.Control.{Control}
 use Rattle.address_place.specs.Place.{base, place_of}
-use Rattle.address_place.specs.declared.Place.TheVariants.{At}
 use Rattle.address_place.proofs.Reach.{place_index, place_aligned, place_offset}
 use Rattle.run_act.specs.Act.{Touched}
 
@@ -41,7 +41,7 @@ first_fits Word at len h = omega arith
 first_fits Double at len h = omega arith
 
 module _ (c : Control) (k : Kind) (n : Width) (a : ℕ) (map : List ℕ) (len at : ℕ)
-    (found : place_of c k n a map len ≡ At (record { 0 = base + at })) where
+    (found : place_of c k n a map len ≡ Ok (record { 0 = base + at })) where
   pub fits : at + size_of n ≤ len
   fits = omega (arith, place_index c k n a map len (record { 0 = base + at }) found)
 

@@ -1,6 +1,7 @@
 -- What the effect of an access is made from: not every operand counts for every access, and so the functions that make the accesses
 -- take only those that do. Where one does not count, it is written 0.
 -- Assumes nothing.
+use Rattle.std.specs.Prelude.{Ok, Err}
 use mathlib.Core.Bool.{Bool, true}
 use mathlib.Core.List.{List}
 use mathlib.Core.Path.{◌≡◌, refl, ap, ◌∙◌}
@@ -13,9 +14,7 @@ use Rattle.isa.specs.declared.Width.{Width}
 use Rattle.isa.specs.declared.Width.TheVariants.{Double}
 use Rattle.isa.specs.declared.Kind.TheVariants as kind
 use Rattle.address.specs.Stack.{push_of}
-use Rattle.address_place.specs.Place.{place_of}
-use Rattle.address_place.specs.declared.Place.{Place}
-use Rattle.address_place.specs.declared.Place.TheVariants.{At, Fault}
+use Rattle.address_place.specs.Place.{place_of, PlaceOrFault}
 use Rattle.step_transfer.specs.Access.{done_of, at_of, passed_of, access_of}
 use Rattle.step_transfer.specs.declared.access.Gate.{Gate}
 use Rattle.step_transfer.specs.declared.access.Gate.TheVariants.{Open, Off}
@@ -24,30 +23,30 @@ use Rattle.csr_setting.specs.declared.Setting.{Setting}
 use Rattle.step_meaning.specs.Instruction.{next_of, execute_of}
 
 -- a load: its register
-pub load_parts : (n : Width) (sign : Bool) (p : Place) (rd a b ssp next : ℕ) (m : List ℕ)
+pub load_parts : (n : Width) (sign : Bool) (p : PlaceOrFault) (rd a b ssp next : ℕ) (m : List ℕ)
     → at_of (Load n sign) p rd a b ssp next m ≡ at_of (Load n sign) p rd 0 0 0 next m
 unfolding at_of done_of
-load_parts n sign (At q) rd a b ssp next m = refl
-load_parts n sign (Fault cause tval) rd a b ssp next m = refl
+load_parts n sign (Ok q) rd a b ssp next m = refl
+load_parts n sign (Err fault) rd a b ssp next m = refl
 
 -- a store: the value of rs2
-pub store_parts : (n : Width) (p : Place) (rd a b ssp next : ℕ) (m : List ℕ)
+pub store_parts : (n : Width) (p : PlaceOrFault) (rd a b ssp next : ℕ) (m : List ℕ)
     → at_of (Store n) p rd a b ssp next m ≡ at_of (Store n) p 0 0 b 0 next m
 unfolding at_of done_of
-store_parts n (At q) rd a b ssp next m = refl
-store_parts n (Fault cause tval) rd a b ssp next m = refl
+store_parts n (Ok q) rd a b ssp next m = refl
+store_parts n (Err fault) rd a b ssp next m = refl
 
 -- a push: the value of rs2, and ssp
-push_parts : (p : Place) (rd a b ssp next : ℕ) (m : List ℕ) → at_of Push p rd a b ssp next m ≡ at_of Push p 0 0 b ssp next m
+push_parts : (p : PlaceOrFault) (rd a b ssp next : ℕ) (m : List ℕ) → at_of Push p rd a b ssp next m ≡ at_of Push p 0 0 b ssp next m
 unfolding at_of done_of
-push_parts (At q) rd a b ssp next m = refl
-push_parts (Fault cause tval) rd a b ssp next m = refl
+push_parts (Ok q) rd a b ssp next m = refl
+push_parts (Err fault) rd a b ssp next m = refl
 
 -- a pop-check: the value of rs1, and ssp
-pop_parts : (p : Place) (rd a b ssp next : ℕ) (m : List ℕ) → at_of Pop p rd a b ssp next m ≡ at_of Pop p 0 a 0 ssp next m
+pop_parts : (p : PlaceOrFault) (rd a b ssp next : ℕ) (m : List ℕ) → at_of Pop p rd a b ssp next m ≡ at_of Pop p 0 a 0 ssp next m
 unfolding at_of done_of
-pop_parts (At q) rd a b ssp next m = refl
-pop_parts (Fault cause tval) rd a b ssp next m = refl
+pop_parts (Ok q) rd a b ssp next m = refl
+pop_parts (Err fault) rd a b ssp next m = refl
 
 -- while the active shadow enable is set, a push and a pop-check make their accesses
 module _ (word : ℕ) (x : List ℕ) (pc ssp : ℕ) (s : Setting) (m map : List ℕ) (on : s.shadow ≡ true) (r : ℕ) where

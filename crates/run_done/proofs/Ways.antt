@@ -1,5 +1,7 @@
 -- How a function of the quick way ends, and what that says of an effect: left undone, a register written, or an access made.
 -- Assumes nothing.
+use Rattle.std.specs.Prelude.{Ok}
+use Rattle.address_place.specs.Place.{PlaceOrFault}
 use mathlib.Core.Bool.{true, false}
 use mathlib.Core.List.{List}
 use mathlib.Core.Path.{◌≡◌, refl, sym, ◌∙◌}
@@ -12,8 +14,6 @@ use Rattle.isa.specs.declared.Access.TheVariants.{Pop}
 use Rattle.isa.specs.declared.Instruction.{Instruction}
 use Rattle.isa.specs.declared.Width.TheVariants.{Double}
 use Rattle.address_place.specs.declared.Physical.{Physical}
-use Rattle.address_place.specs.declared.Place.{Place}
-use Rattle.address_place.specs.declared.Place.TheVariants.{At}
 use Rattle.step_transfer.specs.Access.{read_of, popped_of, done_of, at_of}
 use Rattle.step_effect.specs.Register.{put_of}
 use Rattle.step_effect.specs.declared.Effect.{Effect}
@@ -38,14 +38,14 @@ pub wrote_does : (t : Tried) (rd v next : ℕ) (x x' : List ℕ) → (t ≡ reco
 wrote_does t rd v next x x' h e f rest m = rw (h.0, f) (refl, h.1, refl, refl)
 
 -- an access was made at its place: what it does there
-pub placed : (k : Access) (p : Place) (q : Physical) (rd a b ssp next : ℕ) (x rest m : List ℕ) (pc' : ℕ) (x' rest' m' : List ℕ) → p ≡ At q
+pub placed : (k : Access) (p : PlaceOrFault) (q : Physical) (rd a b ssp next : ℕ) (x rest m : List ℕ) (pc' : ℕ) (x' rest' m' : List ℕ) → p ≡ Ok q
     → Applied (done_of k q rd a b ssp next m) x rest m pc' x' rest' m'
     → Applied (at_of k p rd a b ssp next m) x rest m pc' x' rest' m'
 unfolding at_of
 placed k p q rd a b ssp next x rest m pc' x' rest' m' e h = rw e h
 
 -- and a pop-check that found its value
-pub popped : (p : Place) (q : Physical) (v ssp next : ℕ) (x rest m : List ℕ) (pc' : ℕ) (rest' : List ℕ) → p ≡ At q → read_of m q Double ≡ v
+pub popped : (p : PlaceOrFault) (q : Physical) (v ssp next : ℕ) (x rest m : List ℕ) (pc' : ℕ) (rest' : List ℕ) → p ≡ Ok q → read_of m q Double ≡ v
     → (pc' ≡ next) × (rest' ≡ rest but SSP ≔ sum_of ssp 8)
     → Applied (at_of Pop p 0 v 0 ssp next m) x rest m pc' x rest' m
 unfolding done_of popped_of

@@ -8,7 +8,6 @@ ghost use Rattle.step_hart.specs.Hart.{hart};
 ghost use Rattle.step_hart.specs.Run.{run_from};
 ghost use Rattle.run_engine.specs.Told.{told_of, ran_of};
 
-use address::control;
 use csr_words::{COUNT, setting};
 use step_hart::{Hart, step};
 use step_meaning::{Context, Source};
@@ -38,7 +37,7 @@ fn known(w: &[u64; COUNT]) -> Context
     let s = setting::setting(w);
     Context {
         setting: s,
-        flat: control::flat(s.control),
+        flat: s.control.flat(),
     }
 }
 

@@ -1,5 +1,6 @@
 -- What was read at an address: where its word stands, and that it stays read while the word does.
 -- Assumes nothing.
+use Rattle.std.specs.Prelude.{Ok}
 use mathlib.Core.List.{List}
 use mathlib.Core.Path.{◌≡◌}
 use Prim.Native.Nat.{ℕ, ◌+◌, ◌-◌, ◌%◌, ◌^◌, ◌<◌, ◌≤◌}
@@ -12,7 +13,6 @@ use Rattle.memory.specs.Bytes.{load_of}
 use Rattle.address.specs.Mask.{transformed_of}
 use Rattle.address_place.specs.Place.{base, place_of}
 use Rattle.address_place.specs.declared.Physical.{Physical}
-use Rattle.address_place.specs.declared.Place.TheVariants.{At}
 use Rattle.address_place.proofs.Reach.{place_index, place_aligned, place_offset}
 use Rattle.csr_setting.specs.declared.Setting.{Setting}
 use Rattle.run_pages.proofs.Kept.{at_index}
@@ -50,7 +50,7 @@ read_as f g at to pc pd s m map e d p r = rw (e, d, p) r
 
 -- read anew: a fetch has this place, and the form is that of the word there
 pub found : (f : Form) (at w pc : ℕ) (s : Setting) (m map : List ℕ) (q : Physical)
-    → place_of s.control Fetch Word pc map (length m) ≡ At q → at ≡ q.0 - base → length m ≤ 2 ^ 20
+    → place_of s.control Fetch Word pc map (length m) ≡ Ok q → at ≡ q.0 - base → length m ≤ 2 ^ 20
     → w ≡ load_of m at 4 → Means f (decode_of w) w pc s → (f.rd < 32) × (f.rs1 < 32) × (f.rs2 < 32)
     → (at < 2 ^ 20) × Read f at pc s m map
 found f at w pc s m map q there e most l means small =

@@ -1,5 +1,7 @@
 -- What a form does is a step: along the effect that it says it applied. And what a step of the fast path keeps: register 0 is 0, and pc a multiple of 4.
 -- Assumes nothing.
+use Rattle.std.specs.Prelude.{Ok, Err}
+use Rattle.address_place.specs.Place.{PlaceOrFault, base}
 use mathlib.Core.Bool.{Bool, true, false}
 use mathlib.Core.List.{List, [], ◌∷◌}
 use mathlib.Core.Logic.{⊎_elim}
@@ -17,10 +19,7 @@ use Rattle.isa.specs.declared.Access.TheVariants as access
 use Rattle.isa.specs.declared.Width.TheVariants as width
 use Rattle.decode.specs.Decode.{decode_of}
 use Rattle.memory.specs.Bytes.{load_of}
-use Rattle.address_place.specs.Place.{base}
 use Rattle.address_place.specs.declared.Physical.{Physical}
-use Rattle.address_place.specs.declared.Place.{Place}
-use Rattle.address_place.specs.declared.Place.TheVariants as place
 use Rattle.address.specs.declared.control.Control.{Control}
 use Rattle.step_effect.specs.Compute.{condition_of}
 use Rattle.step_effect.specs.Jump.{even_of, jal_of, jalr_of, branch_of}
@@ -163,10 +162,10 @@ done_lands access.Push q rd a b ssp next m z = z
 done_lands access.Pop q rd a b ssp next m z = chosen (eqb (read_of m q (width_of access.Pop)) a) _ _ (λ _. z) tt
 done_lands (access.Swap n aq rl) q rd a b ssp next m z = tt
 
-at_lands : (k : Access) (p : Place) (rd a b ssp next : ℕ) (m : List ℕ) → next % 4 ≡ 0 → Lands (at_of k p rd a b ssp next m)
+at_lands : (k : Access) (p : PlaceOrFault) (rd a b ssp next : ℕ) (m : List ℕ) → next % 4 ≡ 0 → Lands (at_of k p rd a b ssp next m)
 unfolding at_of
-at_lands k (place.At q) rd a b ssp next m z = done_lands k q rd a b ssp next m z
-at_lands k (place.Fault cause tval) rd a b ssp next m z = tt
+at_lands k (Ok q) rd a b ssp next m z = done_lands k q rd a b ssp next m z
+at_lands k (Err fault) rd a b ssp next m z = tt
 
 module _ (rd a r v pc ssp : ℕ) (c : Control) (m map : List ℕ) (z : pc % 4 ≡ 0) where
   next_lands : next_of pc % 4 ≡ 0

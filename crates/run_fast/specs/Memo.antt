@@ -4,14 +4,13 @@
 -- Below, nums holds the entries' addresses, then where their words stand in memory, then their forms' numbers, 4,096 each; bytes their forms'
 -- registers, rd, rs1 and rs2, and whether each is a sum, 4,096 each, and a flag for each of the 256 frames of memory; ops their forms' operations. s is
 -- what the hart's mode and CSRs say, m memory. An empty entry has the address `none`.
-use Rattle.std.specs.Prelude.{Bool, List, ◌⊎◌, ◌≡◌, ℕ, ◌+◌, ◌-◌, ◌/◌, ◌%◌, ◌<◌, length, get_or, set}
+use Rattle.std.specs.Prelude.{Bool, List, ◌⊎◌, ◌≡◌, ℕ, ◌+◌, ◌-◌, ◌/◌, ◌%◌, ◌<◌, length, get_or, set, Ok}
 use Rattle.word.specs.Choice.{pick}
 use Rattle.isa.specs.declared.Kind.TheVariants.{Fetch}
 use Rattle.isa.specs.declared.Width.TheVariants.{Word}
 use Rattle.decode.specs.Decode.{decode_of}
 use Rattle.memory.specs.Bytes.{load_of}
 use Rattle.address_place.specs.Place.{base, place_of}
-use Rattle.address_place.specs.declared.Place.TheVariants.{At}
 use Rattle.csr_setting.specs.declared.Setting.{Setting}
 use Rattle.run_form.specs.Form.{Means}
 use Rattle.run_form.specs.declared.Form.{Form}
@@ -52,7 +51,7 @@ flag_at bytes i = get_or bytes (i / 4096 + 16384) 0
 
 -- what was read at pc: the word stands at this index, and the form does what its instruction does
 pub record Read (f : Form) (at pc : ℕ) (s : Setting) (m map : List ℕ) : Type 0 where
-  pub place : place_of s.control Fetch Word pc map (length m) ≡ At (record { 0 = base + at })
+  pub place : place_of s.control Fetch Word pc map (length m) ≡ Ok (record { 0 = base + at })
   pub means : Means f (decode_of (load_of m at 4)) (load_of m at 4) pc s
   pub small : (f.rd < 32) × (f.rs1 < 32) × (f.rs2 < 32)
 

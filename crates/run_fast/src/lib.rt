@@ -26,7 +26,6 @@ ghost use Rattle.run_turn.specs.Glide.{Straight, Glides};
 ghost use Rattle.run_fast.specs.Memo.{index_at, Read, nums_with, Entered, Fewer, Clear, AllClear, Emptied};
 
 use address::Virtual;
-use address_place::Place;
 use address_place::steps::fetch;
 use csr_setting::Setting;
 use csr_words::{COUNT, ELP, PC, setting, sized};
@@ -70,7 +69,7 @@ fn read(pc: u64, s: Setting, mem: &[u8], map: &[u64]) -> Known
 {
     let c = s.control;
     match fetch(c, Virtual(pc), map, mem) {
-        Place::At(q) => {
+        Ok(q) => {
             let at = q.index();
             let f = of_word(memory::word(mem, at), pc, s);
             Known {
@@ -79,7 +78,7 @@ fn read(pc: u64, s: Setting, mem: &[u8], map: &[u64]) -> Known
                 form: f,
             }
         }
-        Place::Fault(_, _) => Known {
+        Err(_) => Known {
             there: false,
             at: 0,
             form: run_form::left(),

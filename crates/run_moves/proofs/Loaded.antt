@@ -1,5 +1,6 @@
 -- What a load puts into its register, where loads are neither masked nor translated.
 -- Assumes nothing.
+use Rattle.std.specs.Prelude.{Ok}
 use mathlib.Core.Bool.{Bool, true, false}
 use mathlib.Core.List.{List}
 use mathlib.Core.Path.{◌≡◌, refl, sym, ap, ◌∙◌}
@@ -18,7 +19,6 @@ use Rattle.address.specs.Control.{flat_of}
 use Rattle.address_place.proofs.Flat.{data_flat}
 use Rattle.address_place.specs.Place.{place_of, flat_place_of}
 use Rattle.address_place.specs.declared.Physical.{Physical}
-use Rattle.address_place.specs.declared.Place.TheVariants.{At}
 use Rattle.step_transfer.specs.Access.{read_of, done_of, at_of, passed_of, access_of}
 use Rattle.step_effect.specs.Register.{reg_of, put_of}
 use Rattle.step_effect.specs.declared.Effect.TheVariants.{Write}
@@ -30,18 +30,18 @@ use Rattle.run_value.specs.declared.Value.{Value}
 use Rattle.run_done.proofs.Ways.{wrote_does}
 
 -- at its place, a load's register takes the bytes
-loads_at : (f : Fields) (off : ℕ) (n : Width) (sign : Bool) (a : ℕ) (m : List ℕ) (q : Physical) → flat_place_of kind.Load n a (length m) ≡ At q
+loads_at : (f : Fields) (off : ℕ) (n : Width) (sign : Bool) (a : ℕ) (m : List ℕ) (q : Physical) → flat_place_of kind.Load n a (length m) ≡ Ok q
     → Loads true (Memory (Load n sign) f.rd f.rs1 0 off) f off a m (extend_of n sign (read_of m q n))
 unfolding execute_of access_of passed_of at_of done_of
 loads_at f off n sign a m q at w pc ssp x map s flat sum =
-    let there : place_of s.control kind.Load n (sum_of (reg_of x f.rs1) off) map (length m) ≡ At q =
+    let there : place_of s.control kind.Load n (sum_of (reg_of x f.rs1) off) map (length m) ≡ Ok q =
     data_flat s.control kind.Load n (sum_of (reg_of x f.rs1) off) map (length m) flat refl refl (omega arith)
     ∙ ap (λ (b : ℕ). flat_place_of kind.Load n b (length m)) (sym sum) ∙ at in
     rw there
 
 pub load_told : (t : Value) (v : ℕ) → t ≡ record { known = true; value = v }
     → (f : Fields) (off : ℕ) (n : Width) (sign : Bool) (a : ℕ) (m : List ℕ) (q : Physical)
-    → flat_place_of kind.Load n a (length m) ≡ At q → v ≡ extend_of n sign (read_of m q n)
+    → flat_place_of kind.Load n a (length m) ≡ Ok q → v ≡ extend_of n sign (read_of m q n)
     → Loads t.known (Memory (Load n sign) f.rd f.rs1 0 off) f off a m t.value
 load_told t v h f off n sign a m q at e = rw (h, e) (loads_at f off n sign a m q at)
 

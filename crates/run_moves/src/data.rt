@@ -23,7 +23,7 @@ ghost use Rattle.run_done.specs.Moves.{Does, Loads};
 use super::{undone, wrote};
 use address::Virtual;
 use address::control::Control;
-use address_place::{Place, steps};
+use address_place::steps;
 use csr_words::{COUNT, SSP};
 use isa::{Access, Instruction, Kind, Width};
 use run_done::Tried;
@@ -51,11 +51,11 @@ fn load_at(
         mem.now }
 {
     match steps::translate(c, Kind::Load, n, Virtual(a), map, mem) {
-        Place::At(q) => {
+        Ok(q) => {
             let v = memory::extend(n, sign, memory::load(mem, q.index(), n));
             wrote(x, rd, v, sum::sum(pc, 4))
         }
-        Place::Fault(_, _) => undone(pc),
+        Err(_) => undone(pc),
     }
 }
 
@@ -66,8 +66,8 @@ fn flat_load(n: Width, sign: bool, a: u64, mem: &[u8]) -> Value
         result.value }
 {
     match steps::plainly(Kind::Load, n, Virtual(a), mem) {
-        Place::At(q) => run_value::told(memory::extend(n, sign, memory::load(mem, q.index(), n))),
-        Place::Fault(_, _) => run_value::none(),
+        Ok(q) => run_value::told(memory::extend(n, sign, memory::load(mem, q.index(), n))),
+        Err(_) => run_value::none(),
     }
 }
 
@@ -142,14 +142,14 @@ fn store_at(
         result.pc x rest mem.new }
 {
     match steps::quick_data(flat, c, Kind::Store, n, Virtual(a), map, mem) {
-        Place::At(q) => {
+        Ok(q) => {
             memory::store(mem, q.index(), n, v);
             Tried {
                 done: true,
                 pc: sum::sum(pc, 4),
             }
         }
-        Place::Fault(_, _) => undone(pc),
+        Err(_) => undone(pc),
     }
 }
 
@@ -181,7 +181,7 @@ fn push(v: u64, pc: u64, rest: &mut [u64; COUNT], c: Control, mem: &mut [u8], ma
 {
     let top = sum::difference(rest[SSP], 8);
     match steps::translate(c, Kind::Push, Width::Double, Virtual(top), map, mem) {
-        Place::At(q) => {
+        Ok(q) => {
             memory::store(mem, q.index(), Width::Double, v);
             rest[SSP] = top;
             Tried {
@@ -189,7 +189,7 @@ fn push(v: u64, pc: u64, rest: &mut [u64; COUNT], c: Control, mem: &mut [u8], ma
                 pc: sum::sum(pc, 4),
             }
         }
-        Place::Fault(_, _) => undone(pc),
+        Err(_) => undone(pc),
     }
 }
 
@@ -202,7 +202,7 @@ fn pop(v: u64, pc: u64, rest: &mut [u64; COUNT], c: Control, mem: &[u8], map: &[
 {
     let ssp = rest[SSP];
     match steps::translate(c, Kind::Pop, Width::Double, Virtual(ssp), map, mem) {
-        Place::At(q) => {
+        Ok(q) => {
             if memory::load(mem, q.index(), Width::Double) == v {
                 rest[SSP] = sum::sum(ssp, 8);
                 return Tried {
@@ -212,7 +212,7 @@ fn pop(v: u64, pc: u64, rest: &mut [u64; COUNT], c: Control, mem: &[u8], map: &[
             }
             undone(pc)
         }
-        Place::Fault(_, _) => undone(pc),
+        Err(_) => undone(pc),
     }
 }
 

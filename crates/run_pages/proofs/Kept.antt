@@ -1,5 +1,6 @@
 -- A table of pairs: an empty one remembers, it still does with one more page, and what it has of a page is the place of an access to it.
 -- Assumes nothing.
+use Rattle.std.specs.Prelude.{Ok}
 use mathlib.Core.Bool.{Bool, true, false}
 use mathlib.Core.List.{List}
 use mathlib.Core.Path.{◌≡◌, refl, sym, ◌∙◌, ap, subst}
@@ -16,7 +17,6 @@ use Rattle.isa.specs.declared.Width.TheVariants.{Byte, Half, Word, Double}
 use Rattle.address.specs.declared.control.Control.{Control}
 use Rattle.address_place.specs.Place.{base, place_of}
 use Rattle.address_place.specs.declared.Physical.{Physical}
-use Rattle.address_place.specs.declared.Place.TheVariants.{At}
 use Rattle.address_place.proofs.Reach.{place_within}
 use Rattle.run_pages.specs.Pages.{kind_at, OnPage, Page, Remembers}
 use Rattle.run_pages.proofs.Decided.{decided}
@@ -69,7 +69,7 @@ module _ (ps : List ℕ) (c : Control) (map : List ℕ) (len : ℕ) (j low at : 
           (old i l)
 
   -- with the page of `low`, if its first eight bytes have a place and its frame lies in memory whole
-  pub remembered : (k : Kind) (q : Physical) → kind_at (j / 64) ≡ k → place_of c k Double low map len ≡ At q → low % 4096 ≡ 0
+  pub remembered : (k : Kind) (q : Physical) → kind_at (j / 64) ≡ k → place_of c k Double low map len ≡ Ok q → low % 4096 ≡ 0
       → at ≡ q.0 - base → at + 4096 ≤ len → Remembers ps c map len → Remembers then c map len
   remembered k q e there start i fits old =
       let frame : q.0 - base + 4096 ≤ len = rw (← i) fits in
@@ -77,16 +77,16 @@ module _ (ps : List ℕ) (c : Control) (map : List ℕ) (len : ℕ) (j low at : 
 
 module _ (c : Control) (k : Kind) (w : Width) (a : ℕ) (map : List ℕ) (len : ℕ) where
   -- a place by the index of its byte
-  pub at_index : (q : Physical) (n : ℕ) → place_of c k w a map len ≡ At q → n ≡ q.0 - base → place_of c k w a map len ≡ At (record { 0 = base + n })
+  pub at_index : (q : Physical) (n : ℕ) → place_of c k w a map len ≡ Ok q → n ≡ q.0 - base → place_of c k w a map len ≡ Ok (record { 0 = base + n })
   at_index q n there i =
       let from = (place_within c k w a map len q there).0 in
       let e : q.0 ≡ base + n = omega (arith, from, i) in
-      there ∙ ap (λ (p : ℕ). At (record { 0 = p })) e
+      there ∙ ap (λ (p : ℕ). Ok (record { 0 = p })) e
 
   -- what a table that remembers has of an address's page
   pub recalled : (ps : List ℕ) (j n : ℕ) → Remembers ps c map len → j < 256 → kind_at (j / 64) ≡ k → a < 2 ^ 64 → n ≡ size_of w
       → get_or ps (j * 2) 0 ≡ a - a % 4096 + a % n
-      → (get_or ps (j * 2 + 1) 0 + a % 4096 ≤ len) × (place_of c k w a map len ≡ At (record { 0 = base + (get_or ps (j * 2 + 1) 0 + a % 4096) }))
+      → (get_or ps (j * 2 + 1) 0 + a % 4096 ≤ len) × (place_of c k w a map len ≡ Ok (record { 0 = base + (get_or ps (j * 2 + 1) 0 + a % 4096) }))
   recalled ps j n old l e h s o =
       let (fits, there) = old j l w a h (rw (← s) o) in
       (omega (arith, fits), rw (← e) there)

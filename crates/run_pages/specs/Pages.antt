@@ -1,13 +1,12 @@
 -- What is remembered of pages, under what the hart's mode and CSRs say (c), with this map and so many bytes of memory.
 -- Rule 10.10 of docs/HART.md.
-use Rattle.std.specs.Prelude.{List, ◌≡◌, ℕ, zero, suc, ◌+◌, ◌-◌, ◌*◌, ◌/◌, ◌%◌, ◌^◌, ◌<◌, ◌≤◌, get_or}
+use Rattle.std.specs.Prelude.{List, ◌≡◌, ℕ, zero, suc, ◌+◌, ◌-◌, ◌*◌, ◌/◌, ◌%◌, ◌^◌, ◌<◌, ◌≤◌, get_or, Ok}
 use Rattle.isa.specs.Size.{size_of}
 use Rattle.isa.specs.declared.Kind.{Kind}
 use Rattle.isa.specs.declared.Kind.TheVariants.{Load, Store, Push, Pop}
 use Rattle.isa.specs.declared.Width.{Width}
 use Rattle.address.specs.declared.control.Control.{Control}
 use Rattle.address_place.specs.Place.{base, place_of}
-use Rattle.address_place.specs.declared.Place.TheVariants.{At}
 
 -- the four groups of pairs
 abbrev pub kind_at : (group : ℕ) → Kind
@@ -24,7 +23,7 @@ OnPage first w a = first ≡ a - a % 4096 + a % size_of w
 abbrev pub Page : (first at : ℕ) → Kind → Control → (map : List ℕ) → (len : ℕ) → Type 0
 Page first at k c map len =
     (w : Width) (a : ℕ) → a < 2 ^ 64 → OnPage first w a
-    → (at + a % 4096 + size_of w ≤ len) × (place_of c k w a map len ≡ At (record { 0 = base + (at + a % 4096) }))
+    → (at + a % 4096 + size_of w ≤ len) × (place_of c k w a map len ≡ Ok (record { 0 = base + (at + a % 4096) }))
 
 -- each pair is of its group's kind
 abbrev pub Remembers : (ps : List ℕ) → Control → (map : List ℕ) → (len : ℕ) → Type 0

@@ -7,12 +7,11 @@
 
 ghost use Rattle.std.specs.Prelude.{true, false, ◌≡◌, ◌+◌, ◌/◌, ◌^◌, ◌<◌, ◌≤◌, length};
 ghost use Rattle.address_place.specs.Place.{base, place_of};
-ghost use Rattle.address_place.specs.declared.Place.TheVariants.{At};
 ghost use Rattle.run_pages.specs.Pages.{kind_at, Remembers};
 
 use address::Virtual;
 use address::control::Control;
-use address_place::{Place, steps};
+use address_place::steps;
 use isa::{Kind, Width, size};
 
 // Two words for each of the 4 times 64 pages.
@@ -47,7 +46,7 @@ fn remember(ps: &mut [u64; COUNT], j: usize, k: Kind, a: u64, c: Control, mem: &
 {
     let low = a - a % 4096;
     match steps::translate(c, k, Width::Double, Virtual(low), map, mem) {
-        Place::At(q) => {
+        Ok(q) => {
             let at = q.index();
             if at + 4096 <= mem.len() {
                 sized(*ps);
@@ -56,7 +55,7 @@ fn remember(ps: &mut [u64; COUNT], j: usize, k: Kind, a: u64, c: Control, mem: &
                 return;
             }
         }
-        Place::Fault(_, _) => {}
+        Err(_) => {}
     }
 }
 
@@ -73,16 +72,16 @@ fn find(
 ) -> Sought
     requires { (length mem.now ≤ 2 ^ 20) × (j < 256) × (kind_at (j / 64) ≡ k)
         × Remembers ps.old c map.now (length mem.now) }
-    ensures place { result.found ≡ true → place_of c k n a map.now (length mem.now) ≡ At (record { 0 = base + result.at }) }
+    ensures place { result.found ≡ true → place_of c k n a map.now (length mem.now) ≡ Ok (record { 0 = base + result.at }) }
     ensures pages { Remembers ps.new c map.now (length mem.now) }
 {
     remember(ps, j, k, a, c, mem, map);
     match steps::translate(c, k, n, Virtual(a), map, mem) {
-        Place::At(q) => Sought {
+        Ok(q) => Sought {
             found: true,
             at: q.index(),
         },
-        Place::Fault(_, _) => nowhere(),
+        Err(_) => nowhere(),
     }
 }
 
@@ -98,7 +97,7 @@ pub fn seek(
     map: &[u64],
 ) -> Sought
     requires { (length mem.now ≤ 2 ^ 20) × (group < 4) × (kind_at group ≡ k) × Remembers ps.old c map.now (length mem.now) }
-    ensures place { result.found ≡ true → place_of c k n a map.now (length mem.now) ≡ At (record { 0 = base + result.at }) }
+    ensures place { result.found ≡ true → place_of c k n a map.now (length mem.now) ≡ Ok (record { 0 = base + result.at }) }
     ensures pages { Remembers ps.new c map.now (length mem.now) }
 {
     let j = (group * 64 + a / 4096 % 64) as usize;

@@ -1,10 +1,9 @@
 -- What the quick way does with an instruction that touches the registers and pc alone, and what it sees of memory. Rule 10.10 of docs/HART.md.
-use Rattle.std.specs.Prelude.{Bool, true, List, ◌≡◌, ℕ}
+use Rattle.step_meaning.specs.Plan.{Fetched}
+use Rattle.std.specs.Prelude.{Bool, true, List, ◌≡◌, ℕ, Ok}
 use Rattle.isa.specs.declared.Instruction.{Instruction}
 use Rattle.csr_setting.specs.declared.Setting.{Setting}
 use Rattle.step_meaning.specs.Instruction.{execute_of}
-use Rattle.step_meaning.specs.declared.Fetched.{Fetched}
-use Rattle.step_meaning.specs.declared.Fetched.TheVariants as fetched
 use Rattle.run_done.specs.Moves.{Does}
 use Rattle.run_done.specs.declared.Tried.{Tried}
 use Rattle.run_quick.specs.declared.opcodes.Seen.{Seen}
@@ -17,4 +16,4 @@ Computes i w x pc pad t x' =
 
 -- a word that was seen is the one that a fetch gives
 abbrev pub Sees : Seen → Fetched → Type 0
-Sees r f = r.seen ≡ true → f ≡ fetched.Word r.word
+Sees r f = r.seen ≡ true → f ≡ Ok r.word

@@ -2,10 +2,9 @@
 -- register. Rule 10.10 of docs/HART.md.
 --
 -- Below, x are the registers, w the hart's other words, m memory; a name with ' is what it is afterwards.
-use Rattle.std.specs.Prelude.{Bool, true, false, List, ◌≡◌, ℕ, length}
+use Rattle.std.specs.Prelude.{Bool, true, false, List, ◌≡◌, ℕ, length, Ok}
 use Rattle.step_meaning.specs.declared.Source.TheVariants.{Fetch}
 use Rattle.step_meaning.specs.Plan.{fetched_of}
-use Rattle.step_meaning.specs.declared.Fetched.TheVariants as fetched
 use Rattle.csr_words.specs.Words.{◌of◌, ◌but◌≔◌, COUNT, PC, ELP}
 use Rattle.csr_words.specs.Setting.{setting_of}
 use Rattle.step_hart.specs.Hart.{hart}
@@ -24,7 +23,7 @@ Straight w = (length w ≡ COUNT) × (ELP of w ≡ 0)
 
 -- word stands at pc
 abbrev pub Fetches : (word pc : ℕ) → (w m map : List ℕ) → Type 0
-Fetches word pc w m map = fetched_of Fetch (setting_of w).control pc m map ≡ fetched.Word word
+Fetches word pc w m map = fetched_of Fetch (setting_of w).control pc m map ≡ Ok word
 
 -- a step that fetches was taken, without a trap, and the mode and CSRs say what they said; or nothing changed
 abbrev pub Turned : (done : Bool) → (pc : ℕ) → (x w m map : List ℕ) → (pc' : ℕ) → (x' w' m' : List ℕ) → Type 0

@@ -5,7 +5,7 @@ ghost use Rattle.step_effect.specs.Jump.{even_of, needs_no_pad_of, jal_of, jalr_
 
 use super::Effect;
 use address::cause;
-use isa::Kind;
+use isa::{Fault, Kind};
 use word::{choice, sum};
 
 // JAL: rd takes the link. Also a branch that is taken, whose rd is 0.
@@ -15,7 +15,7 @@ pub fn jal(rd: u8, link: u64, target: u64) -> Effect
     if target % 4 == 0 {
         return Effect::Write(rd, link, target);
     }
-    Effect::Trap(cause::misaligned(Kind::Fetch), target)
+    Effect::Trap(cause::of(Fault::Misaligned, Kind::Fetch), target)
 }
 
 // x1 and x5, through which a function returns, and x7, which holds a landing pad's label.
@@ -33,7 +33,7 @@ pub fn jalr(rd: u8, rs1: u8, link: u64, a: u64, off: u64, pad: bool) -> Effect
     if to % 4 == 0 {
         return Effect::Jump(rd, link, to, expected(pad, needs_no_pad(rs1)));
     }
-    Effect::Trap(cause::misaligned(Kind::Fetch), to)
+    Effect::Trap(cause::of(Fault::Misaligned, Kind::Fetch), to)
 }
 
 pub fn even(target: u64) -> u64

@@ -20,7 +20,7 @@ pub mod system;
 
 // What an instruction changes. `next` is pc after it.
 //
-// A cause is a u8, here as in `Place` and `Fetched`: as a u64 it would put a fault's tval at another offset than a place's one u64, LLVM would
+// A cause is a u8, here as in an `Exception`: as a u64 it would put a fault's tval at another offset than a place's one number, LLVM would
 // join the stores of two arms into one through a chosen pointer, and the enum would live in memory and not in registers.
 #[derive(Clone, Copy)]
 pub enum Effect {

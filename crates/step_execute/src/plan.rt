@@ -5,25 +5,24 @@ ghost use Rattle.step_meaning.specs.Plan.{fetched_of, is_pad_of, landed_of, effe
 use super::instruction;
 use address::Virtual;
 use address::control::Control;
-use address_place::{Place, steps};
+use address_place::steps;
 use csr_setting::Setting;
+use isa::Exception;
 use step_effect::Effect;
 use step_effect::register::reg;
-use step_meaning::{Fetched, Source};
+use step_meaning::Source;
 use word::{choice, sum};
 
-fn fetch(source: Source, c: Control, pc: u64, mem: &[u8], map: &[u64]) -> Fetched
+#[tactic(auto, unfolding(step_meaning::specs::Plan::fetched_of))]
+fn fetch(source: Source, c: Control, pc: u64, mem: &[u8], map: &[u64]) -> Result<u32, Exception>
     requires { length mem.now ≤ 2 ^ 20 }
     ensures { result ≡ fetched_of source c pc mem.now map.now }
 {
     match source {
-        Source::Given(w) => Fetched::Word(w),
+        Source::Given(w) => Ok(w),
         Source::Fetch => {
-            let p = steps::fetch(c, Virtual(pc), map, mem);
-            match p {
-                Place::At(q) => Fetched::Word(memory::word(mem, q.index())),
-                Place::Fault(cause, tval) => Fetched::Fault(cause, tval),
-            }
+            let q = steps::fetch(c, Virtual(pc), map, mem)?;
+            Ok(memory::word(mem, q.index()))
         }
     }
 }
@@ -77,7 +76,7 @@ pub fn plan(
 {
     let c = s.control;
     match fetch(source, c, pc, mem, map) {
-        Fetched::Word(w) => landed(w, x, pc, elp, ssp, s, mem, map),
-        Fetched::Fault(cause, tval) => Effect::Trap(cause, tval),
+        Ok(w) => landed(w, x, pc, elp, ssp, s, mem, map),
+        Err(e) => Effect::Trap(e.cause, e.tval),
     }
 }

@@ -1,6 +1,7 @@
 -- What a step's effect says about alignment: from a pc that is a multiple of 4 it goes on to one, and from an ssp that is a
 -- multiple of 8 it leaves one. Along the cases of its definition; no number needs a bound.
 -- Assumes nothing.
+use Rattle.std.specs.Prelude.{Ok, Err}
 use mathlib.Core.Bool.{Bool, true, false, ◌&&◌}
 use mathlib.Core.List.{List}
 use mathlib.Core.Path.{◌≡◌, refl}
@@ -23,10 +24,8 @@ use Rattle.isa.specs.declared.Instruction.TheVariants.{Ebreak, Sret, Mret, Csr, 
 use Rattle.isa.specs.declared.Mode.{Mode}
 use Rattle.isa.specs.declared.Mode.TheVariants.{User, Supervisor, Machine}
 use Rattle.address.specs.Kind.{kind_of}
-use Rattle.address_place.specs.Place.{place_of}
+use Rattle.address_place.specs.Place.{place_of, PlaceOrFault}
 use Rattle.address_place.specs.declared.Physical.{Physical}
-use Rattle.address_place.specs.declared.Place.{Place}
-use Rattle.address_place.specs.declared.Place.TheVariants.{At, Fault}
 use Rattle.csr_access.specs.Reach.{reach_of}
 use Rattle.csr_access.specs.declared.reach.Reached.{Reached}
 use Rattle.csr_access.specs.declared.reach.Reached.TheVariants as reached
@@ -35,7 +34,7 @@ use Rattle.step_effect.specs.Compute.{condition_of}
 use Rattle.step_effect.specs.Csrs.{csr_reached_of, csr_effect_of}
 use Rattle.step_meaning.specs.Instruction.{next_of, execute_of}
 use Rattle.step_effect.specs.Jump.{even_of, jal_of, jalr_of, branch_of}
-use Rattle.step_meaning.specs.Plan.{fetched_of, is_pad_of, landed_of, arrived_of, effect_of}
+use Rattle.step_meaning.specs.Plan.{fetched_of, is_pad_of, landed_of, arrived_of, effect_of, Fetched}
 use Rattle.step_effect.specs.Register.{reg_of}
 use Rattle.step_effect.specs.System.{mret_effect_of, sret_effect_of}
 use Rattle.step_effect.specs.declared.Effect.{Effect}
@@ -46,8 +45,6 @@ use Rattle.step_effect.specs.declared.Privileged.{Privileged}
 use Rattle.step_effect.specs.declared.Privileged.TheVariants as privileged
 use Rattle.step_transfer.specs.declared.access.Gate.{Gate}
 use Rattle.step_transfer.specs.declared.access.Gate.TheVariants as gate
-use Rattle.step_meaning.specs.declared.Fetched.{Fetched}
-use Rattle.step_meaning.specs.declared.Fetched.TheVariants as fetched
 
 -- where it says to what pc the hart goes: a return and a trap leave that to the CSRs
 abbrev pub PrivilegedAligned : Privileged → Type 0
@@ -109,10 +106,10 @@ module _ (a b ssp next : ℕ) (m : List ℕ) (p : ssp % 8 ≡ 0) (n : next % 4 �
   done_aligned access.Pop q rd = chosen (eqb (read_of m q (width_of access.Pop)) a) _ _ (λ _. (omega (arith, p), n)) tt
   done_aligned (access.Swap w aq rl) q rd = n
 
-  at_aligned : (k : Access) (at : Place) (rd : ℕ) → Aligned (at_of k at rd a b ssp next m)
+  at_aligned : (k : Access) (at : PlaceOrFault) (rd : ℕ) → Aligned (at_of k at rd a b ssp next m)
   unfolding at_of
-  at_aligned k (At q) rd = done_aligned k q rd
-  at_aligned k (Fault cause tval) rd = tt
+  at_aligned k (Ok q) rd = done_aligned k q rd
+  at_aligned k (Err fault) rd = tt
 
   passed_aligned : (g : Gate) (k : Access) (word rd off : ℕ) (s : Setting) (map : List ℕ)
       → Aligned (passed_of g k word rd a b off ssp next s m map)
@@ -159,8 +156,8 @@ module _ (x : List ℕ) (pc ssp : ℕ) (s : Setting) (m map : List ℕ) (p : pc 
 
   arrived_aligned : (f : Fetched) (elp : Bool) → Aligned (arrived_of f x pc elp ssp s m map)
   unfolding arrived_of
-  arrived_aligned (fetched.Fault cause tval) elp = tt
-  arrived_aligned (fetched.Word w) elp = landed_aligned w elp
+  arrived_aligned (Err fault) elp = tt
+  arrived_aligned (Ok w) elp = landed_aligned w elp
 
   pub effect_aligned : (source : Source) (elp : Bool) → Aligned (effect_of source x pc elp ssp s m map)
   unfolding effect_of

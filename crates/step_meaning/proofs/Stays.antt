@@ -1,5 +1,6 @@
 -- What a step stores lies in memory: along the cases of its definition.
 -- Assumes nothing.
+use Rattle.std.specs.Prelude.{Ok, Err}
 use mathlib.Core.Bool.{Bool, true, false, ◌&&◌}
 use mathlib.Core.List.{List}
 use mathlib.Core.Path.{◌≡◌, refl}
@@ -22,8 +23,6 @@ use Rattle.isa.specs.declared.Mode.{Mode}
 use Rattle.isa.specs.declared.Mode.TheVariants.{User, Supervisor, Machine}
 use Rattle.address.specs.Kind.{kind_of}
 use Rattle.address_place.specs.declared.Physical.{Physical}
-use Rattle.address_place.specs.declared.Place.{Place}
-use Rattle.address_place.specs.declared.Place.TheVariants.{At, Fault}
 use Rattle.address_place.proofs.Reach.{place_within}
 use Rattle.csr_access.specs.Reach.{reach_of}
 use Rattle.csr_access.specs.declared.reach.Reached.{Reached}
@@ -31,11 +30,11 @@ use Rattle.csr_access.specs.declared.reach.Reached.TheVariants as reached
 use Rattle.step_transfer.specs.Access.{gate_of_instruction, address_of, read_of, popped_of, done_of, at_of, passed_of, access_of}
 use Rattle.step_effect.specs.Compute.{condition_of}
 use Rattle.step_effect.specs.Csrs.{csr_reached_of, csr_effect_of}
-use Rattle.address_place.specs.Place.{Within}
+use Rattle.address_place.specs.Place.{Within, PlaceOrFault}
 use Rattle.step_effect.specs.Effect.{Stays}
 use Rattle.step_meaning.specs.Instruction.{execute_of}
 use Rattle.step_effect.specs.Jump.{even_of, jal_of, jalr_of, branch_of}
-use Rattle.step_meaning.specs.Plan.{fetched_of, is_pad_of, landed_of, arrived_of, effect_of}
+use Rattle.step_meaning.specs.Plan.{fetched_of, is_pad_of, landed_of, arrived_of, effect_of, Fetched}
 use Rattle.step_effect.specs.Register.{reg_of}
 use Rattle.step_effect.specs.System.{mret_effect_of, sret_effect_of}
 use Rattle.step_effect.specs.declared.Effect.{Effect}
@@ -43,8 +42,6 @@ use Rattle.csr_setting.specs.declared.Setting.{Setting}
 use Rattle.step_meaning.specs.declared.Source.{Source}
 use Rattle.step_transfer.specs.declared.access.Gate.{Gate}
 use Rattle.step_transfer.specs.declared.access.Gate.TheVariants as gate
-use Rattle.step_meaning.specs.declared.Fetched.{Fetched}
-use Rattle.step_meaning.specs.declared.Fetched.TheVariants as fetched
 
 -- of two effects that stay in memory, either
 chosen : (b : Bool) (e f : Effect) (len : ℕ) → Stays e len → Stays f len → Stays (pick b e f) len
@@ -88,12 +85,12 @@ done_stays access.Push q rd a b ssp next m h = h
 done_stays access.Pop q rd a b ssp next m h = chosen (eqb (read_of m q (width_of access.Pop)) a) _ _ (length m) (omega arith) (omega arith)
 done_stays (access.Swap w aq rl) q rd a b ssp next m h = h
 
-at_stays : (k : Access) (p : Place) (rd a b ssp next : ℕ) (m : List ℕ)
-    → ((q : Physical) → p ≡ At q → Within (length m) (width_of k) q.0)
+at_stays : (k : Access) (p : PlaceOrFault) (rd a b ssp next : ℕ) (m : List ℕ)
+    → ((q : Physical) → p ≡ Ok q → Within (length m) (width_of k) q.0)
     → Stays (at_of k p rd a b ssp next m) (length m)
 unfolding at_of
-at_stays k (At q) rd a b ssp next m h = done_stays k q rd a b ssp next m (h q refl)
-at_stays k (Fault cause tval) rd a b ssp next m h = omega arith
+at_stays k (Ok q) rd a b ssp next m h = done_stays k q rd a b ssp next m (h q refl)
+at_stays k (Err fault) rd a b ssp next m h = omega arith
 
 passed_stays : (g : Gate) (k : Access) (word rd a b off ssp next : ℕ) (s : Setting) (m map : List ℕ)
     → Stays (passed_of g k word rd a b off ssp next s m map) (length m)
@@ -137,8 +134,8 @@ module _ (x : List ℕ) (pc ssp : ℕ) (s : Setting) (m map : List ℕ) where
 
   arrived_stays : (f : Fetched) (elp : Bool) → Stays (arrived_of f x pc elp ssp s m map) (length m)
   unfolding arrived_of
-  arrived_stays (fetched.Fault cause tval) elp = omega arith
-  arrived_stays (fetched.Word w) elp = landed_stays w elp
+  arrived_stays (Err fault) elp = omega arith
+  arrived_stays (Ok w) elp = landed_stays w elp
 
 pub effect_stays : (source : Source) (x : List ℕ) (pc : ℕ) (elp : Bool) (ssp : ℕ) (s : Setting) (m map : List ℕ)
     → Stays (effect_of source x pc elp ssp s m map) (length m)

@@ -19,10 +19,3 @@ pub enum Source {
     Fetch,
     Given(u32),
 }
-
-// A word, or why there is none: cause and tval.
-#[derive(Clone, Copy)]
-pub enum Fetched {
-    Word(u32),
-    Fault(u8, u64),
-}

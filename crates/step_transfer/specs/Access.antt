@@ -3,7 +3,7 @@
 --
 -- Below, a and b are the values of rs1 and rs2, next is the address of the next instruction, s what the hart's mode and CSRs
 -- say, m memory.
-use Rattle.std.specs.Prelude.{Bool, true, List, ℕ, ◌-◌, eqb, length}
+use Rattle.std.specs.Prelude.{Bool, true, List, ℕ, ◌-◌, eqb, length, Ok, Err}
 use Rattle.word.specs.Choice.{pick}
 use Rattle.word.specs.Sum.{sum_of, difference_of}
 use Rattle.isa.specs.Size.{size_of, width_of}
@@ -14,11 +14,9 @@ use Rattle.isa.specs.declared.Width.TheVariants.{Double}
 use Rattle.memory.specs.Bytes.{load_of}
 use Rattle.memory.specs.Extend.{extend_of}
 use Rattle.address.specs.Kind.{kind_of}
-use Rattle.address_place.specs.Place.{base, place_of}
+use Rattle.address_place.specs.Place.{base, place_of, PlaceOrFault}
 use Rattle.address.specs.Stack.{push_of}
 use Rattle.address_place.specs.declared.Physical.{Physical}
-use Rattle.address_place.specs.declared.Place.{Place}
-use Rattle.address_place.specs.declared.Place.TheVariants.{At, Fault}
 use Rattle.csr_access.specs.Exception.{illegal_of}
 use Rattle.step_effect.specs.System.{trap_with}
 use Rattle.csr_setting.specs.declared.Setting.{Setting}
@@ -68,9 +66,9 @@ done_of access.Pop q rd a b ssp next m = popped_of (read_of m q Double) a ssp ne
 done_of (access.Swap w aq rl) q rd a b ssp next m = Swap rd (extend_of w true (read_of m q w)) q w b next
 
 -- a fault is the instruction's exception, and changes nothing else
-unfoldable pub at_of : Access → Place → (rd a b ssp next : ℕ) → (m : List ℕ) → Effect
-at_of k (At q) rd a b ssp next m = done_of k q rd a b ssp next m
-at_of k (Fault cause tval) rd a b ssp next m = Trap cause tval
+unfoldable pub at_of : Access → PlaceOrFault → (rd a b ssp next : ℕ) → (m : List ℕ) → Effect
+at_of k (Ok q) rd a b ssp next m = done_of k q rd a b ssp next m
+at_of k (Err fault) rd a b ssp next m = Trap fault.cause fault.tval
 
 unfoldable pub passed_of : Gate → Access → (word rd a b off ssp next : ℕ) → Setting → (m map : List ℕ) → Effect
 passed_of Open k word rd a b off ssp next s m map =

@@ -2,14 +2,13 @@
 ghost use Rattle.std.specs.Prelude.{◌≡◌, ◌^◌, ◌≤◌, length};
 ghost use Rattle.isa.specs.Size.{width_of};
 ghost use Rattle.address_place.specs.declared.Physical.{Physical};
-ghost use Rattle.address_place.specs.declared.Place.TheVariants.{At};
 ghost use Rattle.address_place.specs.Place.{Within};
 ghost use Rattle.step_transfer.specs.Access.{zimop_gate, swap_gate, gate_of_instruction, address_of, popped_of, done_of, at_of, access_of};
 
 use address::{Virtual, kind, stack};
-use address_place::{Physical, Place, steps};
+use address_place::{Physical, steps};
 use csr_setting::Setting;
-use isa::{Access, Width, size};
+use isa::{Access, Exception, Width, size};
 use step_effect::{Effect, system};
 use word::sum;
 
@@ -95,13 +94,22 @@ fn done(k: Access, q: Physical, rd: u8, a: u64, b: u64, ssp: u64, next: u64, mem
     }
 }
 
-fn at(k: Access, p: Place, rd: u8, a: u64, b: u64, ssp: u64, next: u64, mem: &[u8]) -> Effect
-    requires { (q : Physical) → p ≡ At q → Within (length mem.now) (width_of k) q.0 }
+fn at(
+    k: Access,
+    p: Result<Physical, Exception>,
+    rd: u8,
+    a: u64,
+    b: u64,
+    ssp: u64,
+    next: u64,
+    mem: &[u8],
+) -> Effect
+    requires { (q : Physical) → p ≡ Ok q → Within (length mem.now) (width_of k) q.0 }
     ensures { result ≡ at_of k p rd a b ssp next mem.now }
 {
     match p {
-        Place::At(q) => done(k, q, rd, a, b, ssp, next, mem),
-        Place::Fault(cause, tval) => Effect::Trap(cause, tval),
+        Ok(q) => done(k, q, rd, a, b, ssp, next, mem),
+        Err(e) => Effect::Trap(e.cause, e.tval),
     }
 }
 

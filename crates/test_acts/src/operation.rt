@@ -8,7 +8,7 @@
 ghost use Rattle.std.specs.Prelude.{◌≤◌};
 
 use super::state;
-use address::{control, mask};
+use address::mask;
 use csr_access::reach::Reached;
 use csr_setting::{Setting, reach};
 use csr_status::mode;
@@ -87,10 +87,10 @@ fn counted(b: bool, n: u64) -> u64
 // for menvcfg.SSE, and 64 times the masked bits.
 fn regime(h: Hart, kind: u64) -> Came {
     let g = says(h).control;
-    let m = control::effective(g, places::kind(kind));
-    let low = mode::number(m) + counted(control::paged(g, m), 4);
+    let m = g.effective(places::kind(kind));
+    let low = mode::number(m) + counted(g.paged(m), 4);
     let bits = counted(g.sum, 8) + counted(g.mxr, 16) + counted(g.sse, 32);
-    value(low + bits + mask::pmlen(control::pmm(g, m)) * 64, h)
+    value(low + bits + mask::pmlen(g.pmm(m)) * 64, h)
 }
 
 fn done(operation: u64, first: u64, second: u64, h: Hart) -> Came {

@@ -11,8 +11,8 @@ ghost use Rattle.test_rules.specs.Kinds.{case_kind_of};
 use super::width;
 use address::Virtual;
 use address::control::Control;
-use address_place::{Place, steps};
-use isa::{Kind, Mode};
+use address_place::{Physical, steps};
+use isa::{Exception, Kind, Mode};
 use test_lines::line::MOST;
 use test_lines::row;
 
@@ -102,14 +102,14 @@ fn three(fault: u64, first: u64, second: u64) -> [u64; 3] {
     [fault, first, second]
 }
 
-fn shown(p: Place) -> [u64; 3] {
+fn shown(p: Result<Physical, Exception>) -> [u64; 3] {
     match p {
-        Place::At(physical) => three(0, physical.number(), 0),
-        Place::Fault(cause, tval) => three(1, cause as u64, tval),
+        Ok(physical) => three(0, physical.number(), 0),
+        Err(e) => three(1, e.cause as u64, e.tval),
     }
 }
 
-fn translated(mem: &[u8], n: &[u64], map: &[u64]) -> Place
+fn translated(mem: &[u8], n: &[u64], map: &[u64]) -> Result<Physical, Exception>
     requires { length mem.now ≤ 2 ^ 20 }
 {
     let k = kind(row::at(n, 0));
@@ -118,11 +118,11 @@ fn translated(mem: &[u8], n: &[u64], map: &[u64]) -> Place
 }
 
 // The case in a room of bytes, of which memory is the first `len`.
-fn within(n: &[u64], len: usize, room: &mut [u8]) -> Place
+fn within(n: &[u64], len: usize, room: &mut [u8]) -> Result<Physical, Exception>
     requires { (len ≤ length room.old) × (len ≤ 2 ^ 20) }
 {
     if n.len() < MAP {
-        return Place::Fault(0, 0);
+        return Err(Exception { cause: 0, tval: 0 });
     }
     translated(&room[0..len], n, &n[MAP..])
 }
@@ -134,7 +134,7 @@ fn room() -> [u8; 1048576]
     [0; 1048576]
 }
 
-fn tried(n: &[u64], len: usize) -> Place
+fn tried(n: &[u64], len: usize) -> Result<Physical, Exception>
     requires { len ≤ 1048576 }
 {
     let mut room = room();

@@ -1,5 +1,6 @@
 -- Two memories that are alike where an access can reach give one effect, along the cases of the step's definition.
 -- Assumes nothing.
+use Rattle.std.specs.Prelude.{Ok, Err}
 use mathlib.Core.Bool.{Bool, true, ◌&&◌}
 use mathlib.Core.List.{List}
 use mathlib.Core.Path.{◌≡◌, refl, ap}
@@ -21,10 +22,8 @@ use Rattle.isa.specs.declared.Kind.{Kind}
 use Rattle.isa.specs.declared.Kind.TheVariants as kind
 use Rattle.address.specs.Kind.{kind_of}
 use Rattle.address.specs.declared.control.Control.{Control}
-use Rattle.address_place.specs.Place.{place_of}
+use Rattle.address_place.specs.Place.{place_of, PlaceOrFault}
 use Rattle.address_place.specs.declared.Physical.{Physical}
-use Rattle.address_place.specs.declared.Place.{Place}
-use Rattle.address_place.specs.declared.Place.TheVariants.{At, Fault}
 use Rattle.step_effect.specs.Register.{reg_of}
 use Rattle.step_effect.specs.declared.Effect.{Effect}
 use Rattle.step_effect.specs.declared.Effect.TheVariants.{Write, Pad, Swap, Trap}
@@ -33,11 +32,9 @@ use Rattle.step_transfer.specs.Access.{gate_of_instruction, address_of, read_of,
 use Rattle.step_transfer.specs.declared.access.Gate.{Gate}
 use Rattle.step_transfer.specs.declared.access.Gate.TheVariants as gate
 use Rattle.step_meaning.specs.Instruction.{next_of, execute_of}
-use Rattle.step_meaning.specs.Plan.{word_at, fetched_of, is_pad_of, landed_of, arrived_of, effect_of}
+use Rattle.step_meaning.specs.Plan.{word_at, fetched_of, is_pad_of, landed_of, arrived_of, effect_of, Fetched}
 use Rattle.step_meaning.specs.declared.Source.{Source}
 use Rattle.step_meaning.specs.declared.Source.TheVariants.{Fetch, Given}
-use Rattle.step_meaning.specs.declared.Fetched.{Fetched}
-use Rattle.step_meaning.specs.declared.Fetched.TheVariants as fetched
 use Rattle.theorem_isolation.specs.Unseen.{Alike}
 use Rattle.theorem_isolation.proofs.Bytes.{load_alike}
 use Rattle.theorem_isolation.proofs.Frames.{Covers, same_place}
@@ -47,10 +44,10 @@ module _ (Of : (o : ℕ) → Type 0) (s : Setting) (map m n : List ℕ) (A : Ali
   c = s.control
 
   -- at a place that an access was given, both hold the same
-  read_alike : (k : Kind) (w : Width) (a : ℕ) (q : Physical) → place_of c k w a map (length m) ≡ At q → read_of m q w ≡ read_of n q w
+  read_alike : (k : Kind) (w : Width) (a : ℕ) (q : Physical) → place_of c k w a map (length m) ≡ Ok q → read_of m q w ≡ read_of n q w
   read_alike k w a q e = load_alike Of m n _ (size_of w) A (C (length m) k w a q e)
 
-  done_twin : (k : Access) (q : Physical) (at rd a b ssp next : ℕ) → place_of c (kind_of k) (width_of k) at map (length m) ≡ At q
+  done_twin : (k : Access) (q : Physical) (at rd a b ssp next : ℕ) → place_of c (kind_of k) (width_of k) at map (length m) ≡ Ok q
       → done_of k q rd a b ssp next m ≡ done_of k q rd a b ssp next n
   unfolding done_of
   done_twin (access.Load w sign) q at rd a b ssp next e =
@@ -61,11 +58,11 @@ module _ (Of : (o : ℕ) → Type 0) (s : Setting) (map m n : List ℕ) (A : Ali
   done_twin (access.Swap w aq rl) q at rd a b ssp next e =
       ap (λ (v : ℕ). Swap rd (extend_of w true v) q w b next) (read_alike kind.Swap w at q e)
 
-  at_twin : (k : Access) (p : Place) (at rd a b ssp next : ℕ) → place_of c (kind_of k) (width_of k) at map (length m) ≡ p
+  at_twin : (k : Access) (p : PlaceOrFault) (at rd a b ssp next : ℕ) → place_of c (kind_of k) (width_of k) at map (length m) ≡ p
       → at_of k p rd a b ssp next m ≡ at_of k p rd a b ssp next n
   unfolding at_of
-  at_twin k (At q) at rd a b ssp next e = done_twin k q at rd a b ssp next e
-  at_twin k (Fault cause tval) at rd a b ssp next e = refl
+  at_twin k (Ok q) at rd a b ssp next e = done_twin k q at rd a b ssp next e
+  at_twin k (Err fault) at rd a b ssp next e = refl
 
   passed_twin : (g : Gate) (k : Access) (word rd a b off ssp next : ℕ)
       → passed_of g k word rd a b off ssp next s m map ≡ passed_of g k word rd a b off ssp next s n map
@@ -110,12 +107,12 @@ module _ (Of : (o : ℕ) → Type 0) (s : Setting) (map m n : List ℕ) (A : Ali
 
     arrived_twin : (f : Fetched) → arrived_of f x pc elp ssp s m map ≡ arrived_of f x pc elp ssp s n map
     unfolding arrived_of
-    arrived_twin (fetched.Word w) = landed_twin w
-    arrived_twin (fetched.Fault cause tval) = refl
+    arrived_twin (Ok w) = landed_twin w
+    arrived_twin (Err fault) = refl
 
-    word_alike : (p : Place) → place_of c kind.Fetch width.Word pc map (length m) ≡ p → word_at p m ≡ word_at p n
-    word_alike (At q) e = ap (λ (v : ℕ). fetched.Word v) (read_alike kind.Fetch width.Word pc q e)
-    word_alike (Fault cause tval) e = refl
+    word_alike : (p : PlaceOrFault) → place_of c kind.Fetch width.Word pc map (length m) ≡ p → word_at p m ≡ word_at p n
+    word_alike (Ok q) e = ap (λ (v : ℕ). Ok v) (read_alike kind.Fetch width.Word pc q e)
+    word_alike (Err fault) e = refl
 
     fetched_alike : (source : Source) → fetched_of source c pc m map ≡ fetched_of source c pc n map
     unfolding fetched_of

@@ -2,6 +2,7 @@
 -- pages. All that the others know of translation is `Covers`, `Writes` and `same_place`, so another way to find a leaf
 -- touches this file alone.
 -- Assumes nothing.
+use Rattle.std.specs.Prelude.{Ok}
 use mathlib.Core.Bool.{true, true≢false}
 use mathlib.Core.List.{List}
 use mathlib.Core.Path.{◌≡◌, sym, ap}
@@ -22,7 +23,6 @@ use Rattle.address.specs.Control.{effective_mode_of, regime_of}
 use Rattle.address.specs.declared.control.Control.{Control}
 use Rattle.address_place.specs.Place.{base, place_of}
 use Rattle.address_place.specs.declared.Physical.{Physical}
-use Rattle.address_place.specs.declared.Place.TheVariants.{At}
 use Rattle.theorem_origin.proofs.Entries.{behind, behind_names}
 use Rattle.theorem_origin.proofs.Users.{user_mode, user_paged}
 use Rattle.theorem_origin.specs.Force.{leaf_at}
@@ -31,13 +31,13 @@ use Rattle.theorem_isolation.specs.Unseen.{Taken, Marked, Seen, Alike}
 -- every byte of an access that is given a place, in memory of any length, is among these
 abbrev pub Covers : Control → (map : List ℕ) → (Of : (o : ℕ) → Type 0) → Type 0
 Covers c map Of =
-    (len : ℕ) (k : Kind) (w : Width) (a : ℕ) (q : Physical) → place_of c k w a map len ≡ At q
+    (len : ℕ) (k : Kind) (w : Width) (a : ℕ) (q : Physical) → place_of c k w a map len ≡ Ok q
     → (i : ℕ) → i < size_of w → Of (q.0 - base + i)
 
 -- and of one that writes, among these
 abbrev pub Writes : Control → (map : List ℕ) → (To : (o : ℕ) → Type 0) → Type 0
 Writes c map To =
-    (len : ℕ) (k : Kind) (w : Width) (a : ℕ) (q : Physical) → writes k ≡ true → place_of c k w a map len ≡ At q
+    (len : ℕ) (k : Kind) (w : Width) (a : ℕ) (q : Physical) → writes k ≡ true → place_of c k w a map len ≡ Ok q
     → (i : ℕ) → i < size_of w → To (q.0 - base + i)
 
 -- a valid entry with its U bit and W

@@ -1,6 +1,7 @@
 -- A step from one hart in two memories that are alike: one effect, which applied keeps the hart in user mode under its regime until it
 -- traps, keeps the memories alike and every other byte as it was.
 -- Assumes nothing.
+use Rattle.std.specs.Prelude.{Ok}
 use mathlib.Core.Bool.{true, false}
 use mathlib.Core.List.{List}
 use mathlib.Core.Path.{◌≡◌, refl, ◌∙◌}
@@ -17,7 +18,6 @@ use Rattle.isa.specs.declared.Kind.TheVariants as kind
 use Rattle.address_place.proofs.Reach.{place_index}
 use Rattle.address_place.specs.Place.{base, place_of}
 use Rattle.address_place.specs.declared.Physical.{Physical}
-use Rattle.address_place.specs.declared.Place.TheVariants.{At}
 use Rattle.step_effect.specs.declared.Effect.{Effect}
 use Rattle.step_effect.specs.declared.Effect.TheVariants.{Write, Jump, Pad, Store, Push, Pop, Swap, Trap}
 use Rattle.step_effect.specs.declared.Effect.TheVariants as effect
@@ -61,7 +61,7 @@ module _ (Of To : (o : ℕ) → Type 0) (map : List ℕ) where
 
     -- a store at a place that an access which writes was given
     module _ (e : Effect) (k : Kind) (w : Width) (a : ℕ) (q : Physical) (v : ℕ) (t : writes k ≡ true)
-        (at : place_of (in_force h) k w a map (length m) ≡ At q) where
+        (at : place_of (in_force h) k w a map (length m) ≡ Ok q) where
       fits : q.0 - base + size_of w ≤ length m
       fits = place_index (in_force h) k w a map (length m) q at
 

@@ -1,5 +1,6 @@
 -- The entry behind an access that goes by the map and is given a place: one of the map's, whose leaf is a page's and has granted the access.
 -- Assumes nothing.
+use Rattle.std.specs.Prelude.{Ok}
 use mathlib.Core.Bool.{true}
 use mathlib.Core.List.{List}
 use mathlib.Core.Path.{◌≡◌, sym, subst}
@@ -18,7 +19,6 @@ use Rattle.address.specs.declared.control.Control.{Control}
 use Rattle.address_place.proofs.Reach.{place_paged, place_in_page}
 use Rattle.address_place.specs.Place.{base, frame_of, Within, canonical_of, page_number, physical_of, place_of}
 use Rattle.address_place.specs.declared.Physical.{Physical}
-use Rattle.address_place.specs.declared.Place.TheVariants.{At}
 use Rattle.theorem_origin.specs.Force.{leaf_at, Entry, ValidLeaf}
 
 -- t is the transformed address
@@ -37,7 +37,7 @@ in_frame : (q n i f t : ℕ) → base ≤ q → q ≡ f * 4096 + t % 4096 → t 
 in_frame q n i f t b e l u = omega arith
 
 module _ (c : Control) (k : Kind) (w : Width) (a : ℕ) (map : List ℕ) (len : ℕ) (q : Physical)
-    (at : place_of c k w a map len ≡ At q) (paged : paged_of (effective_mode_of c k) c.sv39 ≡ true) where
+    (at : place_of c k w a map len ≡ Ok q) (paged : paged_of (effective_mode_of c k) c.sv39 ≡ true) where
   pub behind : Behind c k w (transformed_of c (effective_mode_of c k) k a) map len q
   behind =
       let P = place_paged c k w a map len q at paged in

@@ -2,6 +2,7 @@
 -- given the place; `Push` is a push that the definition executes as one, and `Pop` a pop-check that found its register's value; and in
 -- user mode a CSR instruction names no CSR but ssp.
 -- Assumes nothing.
+use Rattle.std.specs.Prelude.{Ok, Err}
 use mathlib.Core.Bool.{Bool, true, false, ◌&&◌}
 use mathlib.Core.List.{List}
 use mathlib.Core.Path.{◌≡◌, refl, sym, ap, ◌∙◌}
@@ -25,11 +26,9 @@ use Rattle.isa.specs.declared.Width.TheVariants.{Double}
 use Rattle.isa.specs.declared.Mode.{Mode}
 use Rattle.isa.specs.declared.Mode.TheVariants.{User, Supervisor, Machine}
 use Rattle.address.specs.Kind.{kind_of}
-use Rattle.address_place.specs.Place.{place_of}
+use Rattle.address_place.specs.Place.{place_of, PlaceOrFault}
 use Rattle.address.specs.Stack.{push_of}
 use Rattle.address_place.specs.declared.Physical.{Physical}
-use Rattle.address_place.specs.declared.Place.{Place}
-use Rattle.address_place.specs.declared.Place.TheVariants.{At, Fault}
 use Rattle.csr_access.proofs.Users.{user_ssp}
 use Rattle.csr_access.specs.Reach.{reach_of}
 use Rattle.csr.specs.declared.Csr as csr
@@ -41,7 +40,7 @@ use Rattle.step_effect.specs.Compute.{condition_of}
 use Rattle.step_effect.specs.Csrs.{csr_reached_of, csr_effect_of, writes_of, field_of}
 use Rattle.step_meaning.specs.Instruction.{next_of, execute_of}
 use Rattle.step_effect.specs.Jump.{even_of, jal_of, jalr_of, branch_of}
-use Rattle.step_meaning.specs.Plan.{fetched_of, is_pad_of, landed_of, arrived_of, effect_of}
+use Rattle.step_meaning.specs.Plan.{fetched_of, is_pad_of, landed_of, arrived_of, effect_of, Fetched}
 use Rattle.step_effect.specs.Register.{reg_of}
 use Rattle.step_effect.specs.System.{mret_effect_of, sret_effect_of}
 use Rattle.step_effect.specs.declared.Effect.{Effect}
@@ -53,8 +52,6 @@ use Rattle.step_effect.specs.declared.Privileged.{Privileged}
 use Rattle.step_effect.specs.declared.Privileged.TheVariants as privileged
 use Rattle.step_transfer.specs.declared.access.Gate.{Gate}
 use Rattle.step_transfer.specs.declared.access.Gate.TheVariants as gate
-use Rattle.step_meaning.specs.declared.Fetched.{Fetched}
-use Rattle.step_meaning.specs.declared.Fetched.TheVariants as fetched
 use Rattle.csr_words.specs.Words.{◌of◌, expected, PC, SSP}
 use Rattle.csr_words.specs.Setting.{setting_of}
 use Rattle.step_hart.specs.Step.{plan_of}
@@ -69,18 +66,18 @@ pub record AccessStep (source : Source) (h : Hart) (m map : List ℕ) (k : Acces
   pub rs1 : ℕ
   pub rs2 : ℕ
   pub off : ℕ
-  pub arrives : fetched_of source (in_force h) (PC of h.words) m map ≡ fetched.Word word
+  pub arrives : fetched_of source (in_force h) (PC of h.words) m map ≡ Ok word
   pub unchecked : (expected h.words && (setting_of h.words).pad) ≡ false
   pub reads : decode_of word ≡ Memory k rd rs1 rs2 off
   pub opened : gate_of_instruction k (setting_of h.words).shadow (setting_of h.words).permitted ≡ gate.Open
-  pub place : place_of (in_force h) (kind_of k) (width_of k) (address_of k (sum_of (reg_of h.x rs1) off) (SSP of h.words)) map (length m) ≡ At q
+  pub place : place_of (in_force h) (kind_of k) (width_of k) (address_of k (sum_of (reg_of h.x rs1) off) (SSP of h.words)) map (length m) ≡ Ok q
 
 -- a CSR instruction that names the CSR n, and whether it writes
 pub record CsrStep (source : Source) (h : Hart) (m map : List ℕ) (o : CsrOperation) (n : csr.Csr) (writes : Bool) (rd : ℕ) : Type 0 where
   pub word : ℕ
   pub from : CsrSource
   pub address : ℕ
-  pub arrives : fetched_of source (in_force h) (PC of h.words) m map ≡ fetched.Word word
+  pub arrives : fetched_of source (in_force h) (PC of h.words) m map ≡ Ok word
   pub reads : decode_of word ≡ Csr o from rd address
   pub names : reach_of (in_force h).mode (setting_of h.words).permitted address ≡ reached.To n
   pub wrote : writes ≡ writes_of o (field_of from)
@@ -134,7 +131,7 @@ module _ (source : Source) (h : Hart) (m map : List ℕ) where
   sret_origin Machine word e = λ u. let z : Machine ≡ User = sym e ∙ u in let y : ◌≡◌ {A = ℕ} 0 1 = cc in omega arith
 
   -- the word of the step, and what is known of it where no landing pad check is made
-  module _ (word : ℕ) (arrives : fetched_of source (in_force h) (PC of h.words) m map ≡ fetched.Word word)
+  module _ (word : ℕ) (arrives : fetched_of source (in_force h) (PC of h.words) m map ≡ Ok word)
       (unchecked : (expected h.words && s.pad) ≡ false) where
     module _ (rd rs1 rs2 off : ℕ) where
       abbrev a : ℕ
@@ -145,7 +142,7 @@ module _ (source : Source) (h : Hart) (m map : List ℕ) where
 
       -- such an instruction, given its place
       given : (k : Access) (q : Physical) → decode_of word ≡ Memory k rd rs1 rs2 off → gate_of_instruction k s.shadow s.permitted ≡ gate.Open
-          → place_of (in_force h) (kind_of k) (width_of k) (address_of k (sum_of a off) (SSP of h.words)) map (length m) ≡ At q
+          → place_of (in_force h) (kind_of k) (width_of k) (address_of k (sum_of a off) (SSP of h.words)) map (length m) ≡ Ok q
           → AccessStep source h m map k q
       given k q reads opened place = record {
         word = word;
@@ -166,7 +163,7 @@ module _ (source : Source) (h : Hart) (m map : List ℕ) where
       popped_origin q S false e = tt
 
       done_origin : (k : Access) (q : Physical) → decode_of word ≡ Memory k rd rs1 rs2 off → gate_of_instruction k s.shadow s.permitted ≡ gate.Open
-          → place_of (in_force h) (kind_of k) (width_of k) (address_of k (sum_of a off) (SSP of h.words)) map (length m) ≡ At q
+          → place_of (in_force h) (kind_of k) (width_of k) (address_of k (sum_of a off) (SSP of h.words)) map (length m) ≡ Ok q
           → Origin (done_of k q rd a b (SSP of h.words) (next_of (PC of h.words)) m)
       unfolding done_of popped_of given
       done_origin (access.Load w sign) q reads opened place = tt
@@ -176,12 +173,12 @@ module _ (source : Source) (h : Hart) (m map : List ℕ) where
           popped_origin q (given access.Pop q reads opened place) (eqb (read_of m q Double) a) refl
       done_origin (access.Swap w aq rl) q reads opened place = (aq, rl, given (access.Swap w aq rl) q reads opened place)
 
-      at_origin : (k : Access) (p : Place) → decode_of word ≡ Memory k rd rs1 rs2 off → gate_of_instruction k s.shadow s.permitted ≡ gate.Open
+      at_origin : (k : Access) (p : PlaceOrFault) → decode_of word ≡ Memory k rd rs1 rs2 off → gate_of_instruction k s.shadow s.permitted ≡ gate.Open
           → place_of (in_force h) (kind_of k) (width_of k) (address_of k (sum_of a off) (SSP of h.words)) map (length m) ≡ p
           → Origin (at_of k p rd a b (SSP of h.words) (next_of (PC of h.words)) m)
       unfolding at_of
-      at_origin k (At q) reads opened place = done_origin k q reads opened place
-      at_origin k (Fault cause tval) reads opened place = tt
+      at_origin k (Ok q) reads opened place = done_origin k q reads opened place
+      at_origin k (Err fault) reads opened place = tt
 
       passed_origin : (k : Access) (g : Gate) → decode_of word ≡ Memory k rd rs1 rs2 off → gate_of_instruction k s.shadow s.permitted ≡ g
           → Origin (passed_of g k word rd a b off (SSP of h.words) (next_of (PC of h.words)) s m map)
@@ -223,7 +220,7 @@ module _ (source : Source) (h : Hart) (m map : List ℕ) where
     execute_origin (MopR n rd rs1) e = tt
     execute_origin (MopRr n rd rs1 rs2) e = tt
 
-  landed_origin : (w : ℕ) → fetched_of source (in_force h) (PC of h.words) m map ≡ fetched.Word w
+  landed_origin : (w : ℕ) → fetched_of source (in_force h) (PC of h.words) m map ≡ Ok w
       → Origin (landed_of w h.x (PC of h.words) (expected h.words) (SSP of h.words) s m map)
   unfolding landed_of
   landed_origin w e = go (expected h.words && s.pad) refl
@@ -237,8 +234,8 @@ module _ (source : Source) (h : Hart) (m map : List ℕ) where
   arrived_origin : (f : Fetched) → fetched_of source (in_force h) (PC of h.words) m map ≡ f
       → Origin (arrived_of f h.x (PC of h.words) (expected h.words) (SSP of h.words) s m map)
   unfolding arrived_of
-  arrived_origin (fetched.Fault cause tval) e = tt
-  arrived_origin (fetched.Word w) e = landed_origin w e
+  arrived_origin (Err fault) e = tt
+  arrived_origin (Ok w) e = landed_origin w e
 
   -- of a step
   pub origin : Origin (plan_of source h m map)

@@ -2,6 +2,8 @@
 -- the pointer, the word there is the unmatched push as many places down the list as the slot is above the pointer, else the starting
 -- word. It covers pushes, pops and pops below the start alike.
 -- Assumes nothing.
+use Rattle.std.specs.Prelude.{Ok}
+use Rattle.address_place.specs.Place.{PlaceOrFault, base}
 use mathlib.Core.List.{List, [], ◌∷◌}
 use mathlib.Core.Logic.{◌⊎◌, inl, inr}
 use mathlib.Core.Path.{◌≡◌, refl, sym, ap, ◌∙◌}
@@ -14,10 +16,7 @@ use Rattle.word.specs.Sum.{sum_of, difference_of}
 use Rattle.isa.specs.declared.Width.TheVariants.{Double}
 use Rattle.memory.proofs.Stores.{length_store, load_same, load_ext, load_other}
 use Rattle.memory.specs.Bytes.{store_of}
-use Rattle.address_place.specs.Place.{base}
 use Rattle.address_place.specs.declared.Physical.{Physical}
-use Rattle.address_place.specs.declared.Place.{Place}
-use Rattle.address_place.specs.declared.Place.TheVariants.{At}
 use Rattle.step_transfer.specs.Access.{read_of}
 use Rattle.theorem_shadow.specs.Promise.{Event, pushed, popped, quiet, pushes, pops, Moved, wrote_of, latest, unmatched}
 use Rattle.theorem_shadow.proofs.Bytes.{written}
@@ -39,14 +38,14 @@ eight_up s h = omega arith
 eight_down : (s : ℕ) → s % 8 ≡ 0 → difference_of s 8 % 8 ≡ 0
 eight_down s h = omega arith
 
-module _ (slot : ℕ → Place) (Shadow : ℕ → Type 0) (len : ℕ) (G : Geometry slot Shadow len) (s₀ : ℕ) (m₀ : List ℕ) where
+module _ (slot : ℕ → PlaceOrFault) (Shadow : ℕ → Type 0) (len : ℕ) (G : Geometry slot Shadow len) (s₀ : ℕ) (m₀ : List ℕ) where
   abbrev rank : ℕ → ℕ
   rank = G.rank
 
   -- the word at a slot
   abbrev Words : List Event → (s : ℕ) → (m : List ℕ) → Type 0
   Words es s m =
-      (a : ℕ) (q : Physical) → a % 8 ≡ 0 → slot a ≡ At q → rank s ≤ rank a
+      (a : ℕ) (q : Physical) → a % 8 ≡ 0 → slot a ≡ Ok q → rank s ≤ rank a
       → read_of m q Double ≡ get_or (unmatched es) (rank a - rank s) (read_of m₀ q Double)
 
   pub record Inv (es : List Event) (s : ℕ) (m : List ℕ) : Type 0 where
@@ -72,14 +71,14 @@ module _ (slot : ℕ → Place) (Shadow : ℕ → Type 0) (len : ℕ) (G : Geome
     words = λ a q e f r. same_word a q e f ∙ I.words a q e f r;
   }
     where
-      same_word : (a : ℕ) (q : Physical) → a % 8 ≡ 0 → slot a ≡ At q → read_of m' q Double ≡ read_of m q Double
+      same_word : (a : ℕ) (q : Physical) → a % 8 ≡ 0 → slot a ≡ Ok q → read_of m' q Double ≡ read_of m q Double
       same_word a q e f =
           load_ext m' m (q.0 - base) 8 (l ∙ sym I.long)
           (λ j b c.
           let i : q.0 - base + (j - (q.0 - base)) ≡ j = omega arith in
           rw i at (k (q.0 - base + (j - (q.0 - base))) (G.shadow a q (j - (q.0 - base)) e f (omega arith))))
 
-  pub inv_pop : (es : List Event) (s : ℕ) (m : List ℕ) (p : Physical) → Inv es s m → slot s ≡ At p → Inv (popped ∷ es) (sum_of s 8) m
+  pub inv_pop : (es : List Event) (s : ℕ) (m : List ℕ) (p : Physical) → Inv es s m → slot s ≡ Ok p → Inv (popped ∷ es) (sum_of s 8) m
   unfolding pushes pops latest unmatched
   inv_pop es s m p I e = record {
     eight = eight_up s I.eight;
@@ -94,7 +93,7 @@ module _ (slot : ℕ → Place) (Shadow : ℕ → Type 0) (len : ℕ) (G : Geome
         ∙ sym (get_or-drop 1 (unmatched es) (rank a - rank (sum_of s 8)) (read_of m₀ q Double));
   }
 
-  pub inv_push : (es : List Event) (s : ℕ) (m : List ℕ) (v : ℕ) (p : Physical) → Inv es s m → slot (difference_of s 8) ≡ At p
+  pub inv_push : (es : List Event) (s : ℕ) (m : List ℕ) (v : ℕ) (p : Physical) → Inv es s m → slot (difference_of s 8) ≡ Ok p
       → Inv (pushed p.0 (v % 2 ^ 64) ∷ es) (difference_of s 8) (store_of m (p.0 - base) 8 v)
   unfolding pushes pops latest unmatched
   inv_push es s m v p I e = record {
@@ -118,7 +117,7 @@ module _ (slot : ℕ → Place) (Shadow : ℕ → Type 0) (len : ℕ) (G : Geome
       clear_of p q lp lq (inl d) = inr (omega arith)
       clear_of p q lp lq (inr d) = inl (omega arith)
 
-      pushed_word : (a : ℕ) (q : Physical) → a % 8 ≡ 0 → slot a ≡ At q → rank (difference_of s 8) ≤ rank a
+      pushed_word : (a : ℕ) (q : Physical) → a % 8 ≡ 0 → slot a ≡ Ok q → rank (difference_of s 8) ≤ rank a
           → Dec (rank (difference_of s 8) ≡ rank a)
           → read_of (store_of m (p.0 - base) 8 v) q Double
           ≡ get_or (v % 2 ^ 64 ∷ unmatched es) (rank a - rank (difference_of s 8)) (read_of m₀ q Double)

@@ -1,6 +1,7 @@
 -- How shadow slots lie in memory: the geometry of those that a pop-check may read, in user mode under Sv39, with a map that has each
 -- frame of a valid shadow page in one entry only.
 -- Assumes nothing.
+use Rattle.std.specs.Prelude.{Ok}
 use mathlib.Core.Path.{◌≡◌, refl, sym, ◌∙◌, ap, subst}
 use mathlib.Core.Bool.{true}
 use mathlib.Core.List.{List}
@@ -18,11 +19,9 @@ use Rattle.isa.specs.declared.Mode.{Mode}
 use Rattle.address_place.proofs.Reach.{place_aligned, shadow_paged}
 use Rattle.address.specs.Control.{effective_mode_of}
 use Rattle.address.specs.Mask.{pmlen_of, mask_of, transformed_of}
-use Rattle.address_place.specs.Place.{base, frame_of, Within, canonical_of, page_number, reached_of, place_of}
+use Rattle.address_place.specs.Place.{base, frame_of, Within, canonical_of, page_number, reached_of, place_of, PlaceOrFault}
 use Rattle.address_place.specs.declared.Physical.{Physical}
 use Rattle.address.specs.declared.control.Control.{Control}
-use Rattle.address_place.specs.declared.Place.{Place}
-use Rattle.address_place.specs.declared.Place.TheVariants.{At}
 use Rattle.theorem_origin.proofs.Entries.{Behind, behind}
 use Rattle.theorem_origin.specs.Force.{leaf_at, Entry}
 use Rattle.theorem_shadow.specs.Promise.{Shadow, StandsOnce, ValidShadow}
@@ -46,7 +45,7 @@ eights p q f g v u hv hu ep eq n =
         let e : p ≡ q = omega arith in
         n (omega arith) (omega arith)
 
-one_place : (p q : Physical) → At p ≡ At q → p ≡ q
+one_place : (p q : Physical) → ◌≡◌ {A = PlaceOrFault} (Ok p) (Ok q) → p ≡ q
 one_place p q e = cc
 
 module _ (c : Control) (map : List ℕ) (len : ℕ) (user : c.mode ≡ User) (sv39 : c.sv39 ≡ true) (once : StandsOnce c map) where
@@ -60,7 +59,7 @@ module _ (c : Control) (map : List ℕ) (len : ℕ) (user : c.mode ≡ User) (sv
   abbrev m : Mode
   m = effective_mode_of c kind.Pop
 
-  abbrev slot : ℕ → Place
+  abbrev slot : ℕ → PlaceOrFault
   slot a = place_of c kind.Pop Double a map len
 
   -- the address as masking leaves it, which is then translated
@@ -86,7 +85,7 @@ module _ (c : Control) (map : List ℕ) (len : ℕ) (user : c.mode ≡ User) (sv
     aligned : virtual a % 8 ≡ 0
     within : Within len Double q.0
 
-  reads : (a : ℕ) (q : Physical) → slot a ≡ At q → Reads a q
+  reads : (a : ℕ) (q : Physical) → slot a ≡ Ok q → Reads a q
   reads a q e =
       let B : Behind c kind.Pop Double (virtual a) map len q =
       subst (λ (t : ℕ). Behind c kind.Pop Double t map len q) (transformed a)
@@ -103,14 +102,14 @@ module _ (c : Control) (map : List ℕ) (len : ℕ) (user : c.mode ≡ User) (sv
       }
 
   -- a permitted slot is not in the gap, so the rank rises
-  rises : (a : ℕ) (q : Physical) → a % 8 ≡ 0 → slot a ≡ At q → rank_of p (sum_of a 8) ≡ suc (rank_of p a)
+  rises : (a : ℕ) (q : Physical) → a % 8 ≡ 0 → slot a ≡ Ok q → rank_of p (sum_of a 8) ≡ suc (rank_of p a)
   rises a q s e = rank_step bits a s (gap bits a (reads a q e).canonical)
 
-  falls : (a : ℕ) (q : Physical) → a % 8 ≡ 0 → slot (difference_of a 8) ≡ At q → rank_of p a ≡ suc (rank_of p (difference_of a 8))
+  falls : (a : ℕ) (q : Physical) → a % 8 ≡ 0 → slot (difference_of a 8) ≡ Ok q → rank_of p a ≡ suc (rank_of p (difference_of a 8))
   falls a q s e = sym (rank_back bits a) ∙ rises (difference_of a 8) q (omega arith) e
 
   -- one rank is one address of the cycle, which masking makes one address
-  agree : (a b : ℕ) (q r : Physical) → a % 8 ≡ 0 → b % 8 ≡ 0 → slot a ≡ At q → slot b ≡ At r → rank_of p a ≡ rank_of p b → q ≡ r
+  agree : (a b : ℕ) (q r : Physical) → a % 8 ≡ 0 → b % 8 ≡ 0 → slot a ≡ Ok q → slot b ≡ Ok r → rank_of p a ≡ rank_of p b → q ≡ r
   agree a b q r s t e f h =
       let same : virtual a ≡ virtual b = sign_same bits a b (rank_inj bits a b s t h) in
       let there = ap (λ (t : ℕ). reached_of c m kind.Pop Double t map len) same in
@@ -126,7 +125,7 @@ module _ (c : Control) (map : List ℕ) (len : ℕ) (user : c.mode ≡ User) (sv
       let t = canonical_inj (virtual a) (virtual b) (sign_lt bits a) (sign_lt bits b) X.canonical Y.canonical n o in
       rank_same p a b (sign_inj bits a b t)
 
-  distinct : (a b : ℕ) (q r : Physical) → a % 8 ≡ 0 → b % 8 ≡ 0 → slot a ≡ At q → slot b ≡ At r → (rank_of p a ≡ rank_of p b → ⊥)
+  distinct : (a b : ℕ) (q r : Physical) → a % 8 ≡ 0 → b % 8 ≡ 0 → slot a ≡ Ok q → slot b ≡ Ok r → (rank_of p a ≡ rank_of p b → ⊥)
       → (q.0 + 8 ≤ r.0) ⊎ (r.0 + 8 ≤ q.0)
   distinct a b q r s t e f n =
       let X = reads a q e in
@@ -135,7 +134,7 @@ module _ (c : Control) (map : List ℕ) (len : ℕ) (user : c.mode ≡ User) (sv
       X.aligned Y.aligned X.frame Y.frame
       (λ g o. n (one_rank a b q r X Y g o))
 
-  shadowed : (a : ℕ) (q : Physical) (i : ℕ) → a % 8 ≡ 0 → slot a ≡ At q → i < 8 → Shadow c map (q.0 - base + i)
+  shadowed : (a : ℕ) (q : Physical) (i : ℕ) → a % 8 ≡ 0 → slot a ≡ Ok q → i < 8 → Shadow c map (q.0 - base + i)
   shadowed a q i s e l =
       let X = reads a q e in
       record {

@@ -1,6 +1,7 @@
 -- A step of a stretch keeps the invariant, along the cases of its effect: only a push changes a shadow byte, and only a push or a pop
 -- moves the pointer.
 -- Assumes nothing.
+use Rattle.std.specs.Prelude.{Ok}
 use mathlib.Core.Bool.{Bool, true, false}
 use mathlib.Core.List.{List, ◌∷◌}
 use mathlib.Core.Logic.{◌⊎◌, inl, inr}
@@ -20,11 +21,9 @@ use Rattle.isa.specs.declared.Kind.{Kind}
 use Rattle.isa.specs.declared.Kind.TheVariants as kind
 use Rattle.isa.specs.declared.Mode.TheVariants.{User}
 use Rattle.address_place.proofs.Reach.{place_within}
-use Rattle.address_place.specs.Place.{base, place_of}
+use Rattle.address_place.specs.Place.{base, place_of, PlaceOrFault}
 use Rattle.address_place.specs.declared.Physical.{Physical}
 use Rattle.address.specs.declared.control.Control.{Control}
-use Rattle.address_place.specs.declared.Place.{Place}
-use Rattle.address_place.specs.declared.Place.TheVariants.{At}
 use Rattle.csr.specs.declared.Csr.{Csr}
 use Rattle.csr.specs.declared.Csr.TheVariants.{Ssp}
 use Rattle.step_effect.specs.declared.Effect.{Effect}
@@ -57,12 +56,12 @@ module _ (map : List ℕ) (h₀ : Hart) (m₀ : List ℕ) where
   abbrev c : Control
   c = in_force h₀
 
-  abbrev pub slot : ℕ → Place
+  abbrev pub slot : ℕ → PlaceOrFault
   slot a = place_of c kind.Pop Double a map (length m₀)
 
   -- a hart with the mode and CSRs of the start is given the place that it would be given there
   pub as_at_start : (h : Hart) (m : List ℕ) → Same h₀.words h.words → length m ≡ length m₀ → (k : Kind) (w : Width) (a : ℕ) (q : Physical)
-      → place_of (in_force h) k w a map (length m) ≡ At q → place_of c k w a map (length m₀) ≡ At q
+      → place_of (in_force h) k w a map (length m) ≡ Ok q → place_of c k w a map (length m₀) ≡ Ok q
   as_at_start h m s l k w a q e = ap₂ (λ (d : Control) (n : ℕ). place_of d k w a map n) (sym (same_force h₀ h s)) (sym l) ∙ e
 
   module _ (G : Geometry slot (Shadow c map) (length m₀)) (size : length h₀.words ≡ COUNT) (user : MODE of h₀.words ≡ 0)
@@ -91,11 +90,11 @@ module _ (map : List ℕ) (h₀ : Hart) (m₀ : List ℕ) where
       moved next v = get_or-set_same (h.words but PC ≔ next) SSP v 0 (rw (length-set, same.long, size) (omega arith))
 
       -- the place that the step's access was given, as the stretch's start sees it
-      placed : (k : Kind) (w : Width) (a : ℕ) (q : Physical) → place_of (in_force h) k w a map (length m) ≡ At q
-          → place_of c k w a map (length m₀) ≡ At q
+      placed : (k : Kind) (w : Width) (a : ℕ) (q : Physical) → place_of (in_force h) k w a map (length m) ≡ Ok q
+          → place_of c k w a map (length m₀) ≡ Ok q
       placed = as_at_start h m same I.long
 
-      store_left : (q : Physical) (w : Width) (v next a : ℕ) → place_of (in_force h) kind.Store w a map (length m) ≡ At q
+      store_left : (q : Physical) (w : Width) (v next a : ℕ) → place_of (in_force h) kind.Store w a map (length m) ≡ Ok q
           → Left es h m (Store q w v next)
       store_left q w v next a e =
           let f = placed kind.Store w a q e in

@@ -2,6 +2,7 @@
 -- stops and whose access is permitted has that effect while the shadow stack is on, and no other step has it. What a stretch may
 -- not have, a swap and a CSR write of ssp, comes from such an instruction alone.
 -- Assumes nothing.
+use Rattle.std.specs.Prelude.{Ok}
 use mathlib.Core.Bool.{Bool, true, false, ◌&&◌, not}
 use mathlib.Core.List.{List}
 use mathlib.Core.Path.{◌≡◌, refl, sym, subst, ◌∙◌}
@@ -27,7 +28,6 @@ use Rattle.csr.specs.declared.Csr.TheVariants.{Ssp}
 use Rattle.address.specs.Stack.{push_of}
 use Rattle.address_place.specs.Place.{place_of}
 use Rattle.address_place.specs.declared.Physical.{Physical}
-use Rattle.address_place.specs.declared.Place.TheVariants.{At}
 use Rattle.step_transfer.specs.Access.{read_of, popped_of, done_of, at_of, passed_of, access_of}
 use Rattle.step_transfer.specs.declared.access.Gate.TheVariants as gate
 use Rattle.step_meaning.specs.Instruction.{next_of, execute_of}
@@ -37,7 +37,6 @@ use Rattle.step_effect.specs.declared.Effect.TheVariants.{Push, Pop, Swap, Trap}
 use Rattle.step_effect.specs.declared.Effect.TheVariants as effect
 use Rattle.step_meaning.specs.declared.Source.{Source}
 use Rattle.step_effect.specs.declared.Privileged.TheVariants as privileged
-use Rattle.step_meaning.specs.declared.Fetched.TheVariants.{Word}
 use Rattle.csr_words.specs.Words.{◌of◌, expected, PC, SSP}
 use Rattle.csr_words.specs.Setting.{setting_of}
 use Rattle.step_hart.specs.Step.{plan_of}
@@ -54,12 +53,12 @@ pub record PushStep (source : Source) (h : Hart) (m map : List ℕ) (v : ℕ) (q
   pub rs1 : ℕ
   pub rs2 : ℕ
   pub off : ℕ
-  pub arrives : fetched_of source (in_force h) (PC of h.words) m map ≡ Word word
+  pub arrives : fetched_of source (in_force h) (PC of h.words) m map ≡ Ok word
   pub passes : pad_stops h word ≡ false
   pub reads : decode_of word ≡ Memory access.Push rd rs1 rs2 off
   pub register : v ≡ reg_of h.x rs2
   pub on : (setting_of h.words).shadow ≡ true
-  pub place : place_of (in_force h) kind.Push Double (push_of (SSP of h.words)) map (length m) ≡ At q
+  pub place : place_of (in_force h) kind.Push Double (push_of (SSP of h.words)) map (length m) ≡ Ok q
 
 -- a pop-check that the definition completes
 pub record PopStep (source : Source) (h : Hart) (m map : List ℕ) (v : ℕ) (q : Physical) : Type 0 where
@@ -158,7 +157,7 @@ module _ (source : Source) (h : Hart) (m map : List ℕ) (v : ℕ) (q : Physical
   mismatch_does p on place n = check_does p on place ∙ rw (ne_eqb (read_of m q Double) v (λ e. n (sym e)))
 
 -- a word that a pad check stops is the pad check's fault
-pub pad_stops_lem : (source : Source) (h : Hart) (m map : List ℕ) (w : ℕ) → fetched_of source (in_force h) (PC of h.words) m map ≡ Word w
+pub pad_stops_lem : (source : Source) (h : Hart) (m map : List ℕ) (w : ℕ) → fetched_of source (in_force h) (PC of h.words) m map ≡ Ok w
     → pad_stops h w ≡ true → plan_of source h m map ≡ Trap 18 2
 unfolding effect_of arrived_of landed_of
 pad_stops_lem source h m map w a s =

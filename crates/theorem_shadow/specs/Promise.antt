@@ -13,6 +13,7 @@
 --
 -- Below, h is the hart, m memory, map the page map; h₀ and m₀ are those that the stretch starts from. A step is `step_from`, which the
 -- calls `step`, `step_word` and `run` are proved to make, and its effect is `plan_of`.
+use Rattle.std.specs.Prelude.{Ok}
 use Rattle.std.specs.Prelude.{Bool, true, false, ◌&&◌, not, List, [], ◌∷◌, ◌↔◌, ◌≡◌, ℕ, suc, ◌+◌, ◌-◌, ◌*◌, ◌/◌, ◌%◌, ◌^◌, leb, ltb, get_or, drop, length}
 use Rattle.word.specs.Choice.{pick}
 use Rattle.decode.specs.Decode.{decode_of}
@@ -26,7 +27,6 @@ use Rattle.isa.specs.declared.Kind.TheVariants as kind
 use Rattle.address_place.specs.Place.{base, frame_of, place_of}
 use Rattle.address_place.specs.declared.Physical.{Physical}
 use Rattle.address.specs.declared.control.Control.{Control}
-use Rattle.address_place.specs.declared.Place.TheVariants.{At}
 use Rattle.csr_access.specs.Enable.{sse_of}
 use Rattle.csr.specs.declared.Csr.TheVariants.{Ssp}
 use Rattle.step_transfer.specs.Access.{read_of}
@@ -37,7 +37,6 @@ use Rattle.step_effect.specs.declared.Effect.TheVariants.{Write, Jump, Pad, Stor
 use Rattle.step_effect.specs.declared.Effect.TheVariants as effect
 use Rattle.step_meaning.specs.declared.Source.{Source}
 use Rattle.step_effect.specs.declared.Privileged.TheVariants as privileged
-use Rattle.step_meaning.specs.declared.Fetched.TheVariants.{Word}
 use Rattle.csr_words.specs.Words.{◌of◌, expected, PC, MODE, SSP, SATP, MENVCFG, SENVCFG}
 use Rattle.csr_words.specs.Setting.{setting_of}
 use Rattle.step_hart.specs.Step.{plan_of, step_from}
@@ -150,14 +149,14 @@ pub record PopCheck (source : Source) (h : Hart) (m map : List ℕ) (v : ℕ) : 
   pub rs1 : ℕ
   pub rs2 : ℕ
   pub off : ℕ
-  pub arrives : fetched_of source (in_force h) (PC of h.words) m map ≡ Word word
+  pub arrives : fetched_of source (in_force h) (PC of h.words) m map ≡ Ok word
   pub passes : pad_stops h word ≡ false
   pub reads : decode_of word ≡ instruction.Memory access.Pop rd rs1 rs2 off
   pub register : v ≡ reg_of h.x rs1
 
 -- "and whose access is permitted": its eight bytes at the pointer, masked and translated, are at the physical address q
 abbrev pub Permitted : Hart → (m map : List ℕ) → (q : Physical) → Type 0
-Permitted h m map q = place_of (in_force h) kind.Pop Double (SSP of h.words) map (length m) ≡ At q
+Permitted h m map q = place_of (in_force h) kind.Pop Double (SSP of h.words) map (length m) ≡ Ok q
 
 -- the values that were pushed and not yet popped, "last in first out"
 unfoldable pub unmatched : List Event → List ℕ

@@ -10,16 +10,16 @@ use Rattle.run_fast.proofs.read.Goals as goal
 pub index-at-requires : goal.index-at-requires
 index-at-requires c =
     let a = c.args in
-    (place_within a.s.control Fetch Word a.pc a.map.now (length a.mem.now) c.in-At.q (sym c.fetch.ensures ∙ c.in-At.is)).0
+    (place_within a.s.control Fetch Word a.pc a.map.now (length a.mem.now) c.in-Ok.q (sym c.fetch.ensures ∙ c.in-Ok.is)).0
 
 pub word-requires : goal.word-requires
 word-requires c =
     let a = c.args in
     rw c.index-at.ensures
-    (place_index a.s.control Fetch Word a.pc a.map.now (length a.mem.now) c.in-At.q (sym c.fetch.ensures ∙ c.in-At.is))
+    (place_index a.s.control Fetch Word a.pc a.map.now (length a.mem.now) c.in-Ok.q (sym c.fetch.ensures ∙ c.in-Ok.is))
 
-pub returns-in-At : goal.returns-in-At
-returns-in-At c =
+pub returns-in-Ok : goal.returns-in-Ok
+returns-in-Ok c =
     let a = c.args in
-    λ e. found c.of_word-f.result c.index-at.result c.word.result a.pc a.s a.mem.now a.map.now c.in-At.q
-    (sym c.fetch.ensures ∙ c.in-At.is) c.index-at.ensures c.requires c.word.ensures c.of_word-f.ensures.means c.of_word-f.ensures.small
+    λ e. found c.of_word-f.result c.index-at.result c.word.result a.pc a.s a.mem.now a.map.now c.in-Ok.q
+    (sym c.fetch.ensures ∙ c.in-Ok.is) c.index-at.ensures c.requires c.word.ensures c.of_word-f.ensures.means c.of_word-f.ensures.small

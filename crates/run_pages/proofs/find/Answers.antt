@@ -8,12 +8,12 @@ use Rattle.run_pages.proofs.find.Goals as goal
 pub index-requires : goal.index-requires
 index-requires c =
     let a = c.args in
-    (place_within a.c a.k a.n a.a a.map.now (length a.mem.now) c.in-At.q (sym c.translate.ensures ∙ c.in-At.is)).0
+    (place_within a.c a.k a.n a.a a.map.now (length a.mem.now) c.in-Ok.q (sym c.translate.ensures ∙ c.in-Ok.is)).0
 
-pub returns-in-At : goal.returns-in-At
-returns-in-At c =
+pub returns-in-Ok : goal.returns-in-Ok
+returns-in-Ok c =
     let a = c.args in record {
-      place = λ e. at_index a.c a.k a.n a.a a.map.now (length a.mem.now) c.in-At.q c.index.result
-          (sym c.translate.ensures ∙ c.in-At.is) c.index.ensures;
+      place = λ e. at_index a.c a.k a.n a.a a.map.now (length a.mem.now) c.in-Ok.q c.index.result
+          (sym c.translate.ensures ∙ c.in-Ok.is) c.index.ensures;
       pages = c.remember.ensures;
     }

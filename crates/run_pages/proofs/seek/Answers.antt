@@ -1,10 +1,10 @@
 -- `run_pages::seek` meets its contract: a page that is remembered has the access's place. Assumes nothing.
+use Rattle.std.specs.Prelude.{Ok}
 use mathlib.Core.Path.{◌≡◌}
 use Prim.Native.Nat.{ℕ, ◌+◌, ◌*◌, ◌/◌, ◌%◌, ◌≤◌}
 use native.Mathlib.Omega.{arith}
 use lib.ListN.{get_or, length}
 use Rattle.address_place.specs.Place.{base, place_of}
-use Rattle.address_place.specs.declared.Place.TheVariants.{At}
 use Rattle.run_pages.proofs.Kept.{recalled, in_group}
 use Rattle.run_pages.proofs.seek.Goals as goal
 use Rattle.run_pages.proofs.seek.Goals.{Then-ps-j}
@@ -23,7 +23,7 @@ module _ (c : Then-ps-j) where
   abbrev len : ℕ
   len = length c.args.mem.now
 
-  hit : (at ≤ len) × (place_of c.args.c c.args.k c.args.n a c.args.map.now len ≡ At (record { 0 = base + at }))
+  hit : (at ≤ len) × (place_of c.args.c c.args.k c.args.n a c.args.map.now len ≡ Ok (record { 0 = base + at }))
   hit =
       let g = in_group c.args.group (a / 4096 % 64) c.args.k c.requires.1 (omega arith) c.requires.2 in
       recalled c.args.c c.args.k c.args.n a c.args.map.now len c.args.ps.now j

@@ -5,15 +5,15 @@ use Rattle.run_moves.proofs.Loaded.{load_told}
 use Rattle.run_moves.proofs.data.flat_load.Goals as goal
 
 pub index-requires : goal.index-requires
-index-requires c = (flat_within _ _ _ _ _ (sym c.plainly.ensures ∙ c.in-At.is)).0
+index-requires c = (flat_within _ _ _ _ _ (sym c.plainly.ensures ∙ c.in-Ok.is)).0
 
 pub load-requires : goal.load-requires
 load-requires c =
-    rw c.index.ensures (flat_index _ _ _ _ _ (sym c.plainly.ensures ∙ c.in-At.is))
+    rw c.index.ensures (flat_index _ _ _ _ _ (sym c.plainly.ensures ∙ c.in-Ok.is))
 
-pub returns-in-At : goal.returns-in-At
-returns-in-At c =
+pub returns-in-Ok : goal.returns-in-Ok
+returns-in-Ok c =
     let a = c.args in
-    λ f off. load_told c.told.result c.extend.result c.told.ensures f off a.n a.sign a.a a.mem.now c.in-At.q
-    (sym c.plainly.ensures ∙ c.in-At.is)
+    λ f off. load_told c.told.result c.extend.result c.told.ensures f off a.n a.sign a.a a.mem.now c.in-Ok.q
+    (sym c.plainly.ensures ∙ c.in-Ok.is)
     (rw (c.load.ensures, c.index.ensures) at c.extend.ensures)

@@ -6,18 +6,18 @@ use Rattle.run_done.proofs.Ways.{wrote_does}
 use Rattle.run_moves.proofs.data.load_at.Goals as goal
 
 pub index-requires : goal.index-requires
-index-requires c = (place_within _ _ _ _ _ _ _ (sym c.translate.ensures ∙ c.in-At.is)).0
+index-requires c = (place_within _ _ _ _ _ _ _ (sym c.translate.ensures ∙ c.in-Ok.is)).0
 
 pub load-requires : goal.load-requires
 load-requires c = rw c.index.ensures (place_index _ _ _ _ _ _ _
-    (sym c.translate.ensures ∙ c.in-At.is))
+    (sym c.translate.ensures ∙ c.in-Ok.is))
 
-pub returns-in-At : goal.returns-in-At
+pub returns-in-Ok : goal.returns-in-Ok
 unfolding at_of done_of
-returns-in-At c =
+returns-in-Ok c =
     λ rest. wrote_does _ _ _ _ _ _ c.wrote.ensures _ (rw (
       sym c.translate.ensures
-          ∙ c.in-At.is,
+          ∙ c.in-Ok.is,
       c.extend-v.ensures,
       c.load.ensures,
       c.index.ensures,

@@ -6,15 +6,15 @@ use Rattle.run_done.proofs.Ways.{placed}
 use Rattle.run_moves.proofs.data.push.Goals as goal
 
 pub index-requires : goal.index-requires
-index-requires c = (place_within _ _ _ _ _ _ _ (sym c.translate.ensures ∙ c.in-At.is)).0
+index-requires c = (place_within _ _ _ _ _ _ _ (sym c.translate.ensures ∙ c.in-Ok.is)).0
 
 pub store-requires : goal.store-requires
 store-requires c = rw c.index.ensures (place_index _ _ _ _ _ _ _
-    (sym c.translate.ensures ∙ c.in-At.is))
+    (sym c.translate.ensures ∙ c.in-Ok.is))
 
-pub returns-in-At : goal.returns-in-At
+pub returns-in-Ok : goal.returns-in-Ok
 unfolding done_of
-returns-in-At c =
+returns-in-Ok c =
     let top = c.difference-top.ensures in
-    λ x. placed _ _ _ _ _ _ _ _ _ _ _ _ _ _ _ (sym (rw top at c.translate.ensures) ∙ c.in-At.is)
+    λ x. placed _ _ _ _ _ _ _ _ _ _ _ _ _ _ _ (sym (rw top at c.translate.ensures) ∙ c.in-Ok.is)
     (c.sum.ensures, refl, rw top, rw c.index.ensures at c.store.ensures)

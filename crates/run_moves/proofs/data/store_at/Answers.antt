@@ -6,14 +6,14 @@ use Rattle.run_done.proofs.Ways.{placed}
 use Rattle.run_moves.proofs.data.store_at.Goals as goal
 
 pub index-requires : goal.index-requires
-index-requires c = (place_within _ _ _ _ _ _ _ (sym c.quick_data.ensures ∙ c.in-At.is)).0
+index-requires c = (place_within _ _ _ _ _ _ _ (sym c.quick_data.ensures ∙ c.in-Ok.is)).0
 
 pub store-requires : goal.store-requires
 store-requires c = rw c.index.ensures (place_index _ _ _ _ _ _ _
-    (sym c.quick_data.ensures ∙ c.in-At.is))
+    (sym c.quick_data.ensures ∙ c.in-Ok.is))
 
-pub returns-in-At : goal.returns-in-At
+pub returns-in-Ok : goal.returns-in-Ok
 unfolding done_of
-returns-in-At c =
-    λ x rest. placed _ _ _ _ _ _ _ _ _ _ _ _ _ _ _ (sym c.quick_data.ensures ∙ c.in-At.is)
+returns-in-Ok c =
+    λ x rest. placed _ _ _ _ _ _ _ _ _ _ _ _ _ _ _ (sym c.quick_data.ensures ∙ c.in-Ok.is)
     (c.sum.ensures, refl, refl, rw c.index.ensures at c.store.ensures)

@@ -9,4 +9,4 @@ returns-then-target-eq0 c = rw (eq-eqb _ _ c.if-target-eq0.true)
 
 pub returns : goal.returns
 unfolding jal_of
-returns c = rw (c.misaligned.ensures, ne_eqb _ _ c.if-target-eq0.false)
+returns c = rw (c.of.ensures, ne_eqb _ _ c.if-target-eq0.false)

@@ -11,4 +11,4 @@ returns-then-to-eq0 c =
 pub returns : goal.returns
 unfolding jalr_of
 returns c =
-    rw (c.misaligned.ensures, ← c.sum.ensures, ← c.even-to.ensures, ne_eqb _ _ c.if-to-eq0.false)
+    rw (c.of.ensures, ← c.sum.ensures, ← c.even-to.ensures, ne_eqb _ _ c.if-to-eq0.false)

@@ -3,10 +3,10 @@ use mathlib.Core.Path.{sym, ◌∙◌}
 use Rattle.step_meaning.specs.Plan.{effect_of, arrived_of}
 use Rattle.step_execute.proofs.plan.plan.Goals as goal
 
-pub returns-in-Word : goal.returns-in-Word
+pub returns-in-Ok : goal.returns-in-Ok
 unfolding effect_of arrived_of
-returns-in-Word c = rw (c.landed.ensures, sym c.fetch.ensures ∙ c.in-Word.is)
+returns-in-Ok c = rw (c.landed.ensures, sym c.fetch.ensures ∙ c.in-Ok.is)
 
-pub returns-in-Fault : goal.returns-in-Fault
+pub returns-in-Err : goal.returns-in-Err
 unfolding effect_of arrived_of
-returns-in-Fault c = rw (sym c.fetch.ensures ∙ c.in-Fault.is)
+returns-in-Err c = rw (sym c.fetch.ensures ∙ c.in-Err.is)

@@ -2,10 +2,10 @@
 use Rattle.step_transfer.specs.Access.{at_of}
 use Rattle.step_transfer.proofs.access.at.Goals as goal
 
-pub returns-in-At : goal.returns-in-At
+pub returns-in-Ok : goal.returns-in-Ok
 unfolding at_of
-returns-in-At c = rw (c.done.ensures, c.in-At.is)
+returns-in-Ok c = rw (c.done.ensures, c.in-Ok.is)
 
-pub returns-in-Fault : goal.returns-in-Fault
+pub returns-in-Err : goal.returns-in-Err
 unfolding at_of
-returns-in-Fault c = rw c.in-Fault.is
+returns-in-Err c = rw c.in-Err.is
