@@ -1,12 +1,10 @@
 -- The table of digits: what two bytes say by it.
 -- Assumes nothing.
 use mathlib.Core.List.{List}
-use mathlib.Core.Path.{◌≡◌, ◌∙◌}
+use mathlib.Core.Path.{◌≡◌}
 use Prim.Native.Nat.{ℕ, ◌+◌, ◌*◌, ◌<◌, ◌≤◌}
 use native.Mathlib.Omega.{arith}
-use lib.ListN.{length, get_or, set, length-set}
-use lib.Seq.{get_or-set_same, get_or-set_other}
-use Rattle.word.proofs.Either.{either}
+use lib.ListN.{get_or}
 use Rattle.intel_hex.specs.Inner.{weight_of, Filled}
 use Rattle.intel_hex.proofs.Digits.{weight_most}
 
