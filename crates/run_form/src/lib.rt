@@ -172,31 +172,15 @@ fn branch(k: Condition) -> Op
 fn load(n: Width, sign: bool) -> Op
     ensures { (result ≡ Left) ⊎ (shape_of result ≡ Memory (access.Load n sign)) }
 {
-    match n {
-        Width::Byte => {
-            if sign {
-                return Op::Lb;
-            }
-            Op::Lbu
-        }
-        Width::Half => {
-            if sign {
-                return Op::Lh;
-            }
-            Op::Lhu
-        }
-        Width::Word => {
-            if sign {
-                return Op::Lw;
-            }
-            Op::Lwu
-        }
-        Width::Double => {
-            if sign {
-                return Op::Ld;
-            }
-            Op::Left
-        }
+    match (n, sign) {
+        (Width::Byte, true) => Op::Lb,
+        (Width::Half, true) => Op::Lh,
+        (Width::Word, true) => Op::Lw,
+        (Width::Double, true) => Op::Ld,
+        (Width::Byte, false) => Op::Lbu,
+        (Width::Half, false) => Op::Lhu,
+        (Width::Word, false) => Op::Lwu,
+        (Width::Double, false) => Op::Left,
     }
 }
 
@@ -230,18 +214,10 @@ fn access(k: Access, rd: u8, rs1: u8, rs2: u8, off: u64, on: bool) -> Form
     match k {
         Access::Load(n, sign) => make(load(n, sign), rd, rs1, rs2, off),
         Access::Store(n) => make(store(n), rd, rs1, rs2, off),
-        Access::Push => {
-            if on {
-                return make(Op::Push, rd, rs1, rs2, off);
-            }
-            zero(rd)
-        }
-        Access::Pop => {
-            if on {
-                return make(Op::Pop, rd, rs1, rs2, off);
-            }
-            zero(rd)
-        }
+        Access::Push if on => make(Op::Push, rd, rs1, rs2, off),
+        Access::Pop if on => make(Op::Pop, rd, rs1, rs2, off),
+        Access::Push => zero(rd),
+        Access::Pop => zero(rd),
         Access::Swap(_, _, _) => left(),
     }
 }
@@ -251,7 +227,6 @@ fn shaped(i: Instruction, pc: u64, pad: bool, on: bool) -> Form
     ensures { (word : ℕ) (s : setting.Setting) → s.pad ≡ pad → s.shadow ≡ on → Means result i word pc s }
 {
     match i {
-        Instruction::Illegal => left(),
         Instruction::Lui(rd, v) => make(Op::Add, rd, 0, 0, v),
         Instruction::Auipc(rd, v) => make(Op::Add, rd, 0, 0, sum::sum(pc, v)),
         Instruction::Jal(rd, off) => make(Op::Jal, rd, 0, 0, sum::sum(pc, off)),
@@ -268,19 +243,16 @@ fn shaped(i: Instruction, pc: u64, pad: bool, on: bool) -> Form
         Instruction::Op(o, rd, rs1, rs2) => make(operation(o), rd, rs1, rs2, 0),
         Instruction::Op32(o, rd, rs1, rs2) => make(word_operation(o), rd, rs1, rs2, 0),
         Instruction::Fence(_, _, _, _, _) => zero(0),
-        Instruction::Ecall => left(),
-        Instruction::Ebreak => left(),
-        Instruction::Sret => left(),
-        Instruction::Mret => left(),
-        Instruction::Csr(_, _, _, _) => left(),
-        Instruction::ReadSsp(rd) => {
-            if on {
-                return make(Op::ReadSsp, rd, 0, 0, 0);
-            }
-            zero(rd)
-        }
+        Instruction::ReadSsp(rd) if on => make(Op::ReadSsp, rd, 0, 0, 0),
+        Instruction::ReadSsp(rd) => zero(rd),
         Instruction::MopR(_, rd, _) => zero(rd),
         Instruction::MopRr(_, rd, _, _) => zero(rd),
+        Instruction::Illegal
+        | Instruction::Ecall
+        | Instruction::Ebreak
+        | Instruction::Sret
+        | Instruction::Mret
+        | Instruction::Csr(_, _, _, _) => left(),
     }
 }
 
@@ -290,12 +262,8 @@ pub fn formed(i: Instruction, pc: u64, s: Setting) -> Form
     ensures small { (result.rd < 32) × (result.rs1 < 32) × (result.rs2 < 32) }
 {
     let f = shaped(i, pc, s.pad, s.shadow);
-    if f.rd < 32 {
-        if f.rs1 < 32 {
-            if f.rs2 < 32 {
-                return f;
-            }
-        }
+    if f.rd < 32 && f.rs1 < 32 && f.rs2 < 32 {
+        return f;
     }
     left()
 }

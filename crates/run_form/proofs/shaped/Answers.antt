@@ -5,9 +5,6 @@ use Rattle.run_form.proofs.Laws.{branch_means, jalr_means}
 use Rattle.run_form.proofs.Laws.{op_imm_32_means, op_means, op_32_means, jal_means, read_means}
 use Rattle.run_form.proofs.shaped.Goals as goal
 
-pub returns-then-on : goal.returns-then-on
-returns-then-on c word s p q = read_means word _ s c.make-then-on.ensures c.in-ReadSsp.is (q ∙ c.if-on.true)
-
 pub returns-in-Lui : goal.returns-in-Lui
 returns-in-Lui c word s p q = lui_means word _ s c.make.ensures c.in-Lui.is
 
@@ -35,8 +32,11 @@ returns-in-Op32 c word s p q = op_32_means word _ s c.make-in-Op32.ensures c.in-
 pub returns-in-Fence : goal.returns-in-Fence
 returns-in-Fence c word s p q = fence_means word _ s c.zero.ensures c.in-Fence.is
 
-pub returns-else-on : goal.returns-else-on
-returns-else-on c word s p q = unread_means word _ s c.zero-in-ReadSsp.ensures c.in-ReadSsp.is (q ∙ c.if-on.false)
+pub returns-in-ReadSsp : goal.returns-in-ReadSsp
+returns-in-ReadSsp c word s p q = read_means word _ s c.make-in-ReadSsp.ensures c.in-ReadSsp.is (q ∙ c.if-on.true)
+
+pub returns-in-ReadSsp-2 : goal.returns-in-ReadSsp-2
+returns-in-ReadSsp-2 c word s p q = unread_means word _ s c.zero-in-ReadSsp-2.ensures c.in-ReadSsp-2.is (q ∙ c.if-on.false)
 
 pub returns-in-MopR : goal.returns-in-MopR
 returns-in-MopR c word s p q = mop_means word _ s c.zero-in-MopR.ensures c.in-MopR.is
