@@ -12,9 +12,9 @@ pub store-requires : goal.store-requires
 store-requires c = rw c.index.ensures (place_index _ _ _ _ _ _ _
     (sym c.translate.ensures ∙ c.in-At.is))
 
-pub returns-in-At : goal.returns-in-At
+pub returns : goal.returns
 unfolding done_of
-returns-in-At c =
+returns c =
     let top = c.difference-top.ensures in
     λ x. placed _ _ _ _ _ _ _ _ _ _ _ _ _ _ _ (sym (rw top at c.translate.ensures) ∙ c.in-At.is)
     (c.sum.ensures, refl, rw top, rw c.index.ensures at c.store.ensures)

@@ -12,8 +12,8 @@ pub store-requires : goal.store-requires
 store-requires c = rw c.index.ensures (place_index _ _ _ _ _ _ _
     (sym c.quick_data.ensures ∙ c.in-At.is))
 
-pub returns-in-At : goal.returns-in-At
+pub returns : goal.returns
 unfolding done_of
-returns-in-At c =
+returns c =
     λ x rest. placed _ _ _ _ _ _ _ _ _ _ _ _ _ _ _ (sym c.quick_data.ensures ∙ c.in-At.is)
     (c.sum.ensures, refl, refl, rw c.index.ensures at c.store.ensures)
