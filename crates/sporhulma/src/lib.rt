@@ -9,18 +9,9 @@ ghost use Rattle.std.specs.Prelude.{◌≡◌, [], ◌∷◌};
 ghost use Rattle.sporhulma.specs.Boundary.{step_left_of, step_word_left, run_left, left_from};
 ghost use Rattle.sporhulma.specs.Load.{load_left};
 
-use csr_words::{COUNT, flag};
+use csr_words::COUNT;
 use run_engine::run;
 use step_meaning::Source;
-
-// A refusal's number, and count 0.
-fn refused(n: u64, answer: &mut [u64; 3]) -> u64
-    ensures result { result ≡ n }
-    ensures answer { answer.new ≡ (0 ∷ 0 ∷ 0 ∷ []) }
-{
-    *answer = [0, 0, 0];
-    n
-}
 
 // A run whose first word comes from `source`. The caller's words are the hart: nothing is copied, in or out.
 fn call(
@@ -42,13 +33,16 @@ fn call(
     ensures answer { answer.new ≡ (left_from source budget x.old rest.old mem.old
         map.now).answer }
 {
-    let n = run_call::run_refusal(x, rest, mem, map, budget);
-    if n == 0 {
-        let t = run::run(x, rest, source, mem, map, budget);
-        *answer = [t.count, flag(t.trapped), t.cause];
-        return 0;
+    if let Some(refusal) = run_call::run_refusal(x, rest, mem, map, budget) {
+        *answer = [0, 0, 0];
+        return refusal.number();
     }
-    refused(n, answer)
+    let t = run::run(x, rest, source, mem, map, budget);
+    *answer = match t.trap {
+        Some(cause) => [t.count, 1, cause],
+        None => [t.count, 0, 0],
+    };
+    0
 }
 
 // One step, which fetches at pc.

@@ -43,10 +43,14 @@ fn on(n: &[u64], mem: &mut [u8], map: &[u64; MOST], count: usize) -> Answer
 
 // Puts the answer into a row.
 fn shown(a: Answer, got: &mut [u64; MOST]) {
-    row::put(&mut *got, 0, a.refusal);
+    row::put(
+        &mut *got,
+        0,
+        a.refusal.map_or(0, |refusal| refusal.number()),
+    );
     row::put(&mut *got, 1, a.count);
-    row::put(&mut *got, 2, flag(a.trapped));
-    row::put(&mut *got, 3, a.cause);
+    row::put(&mut *got, 2, flag(a.trap.is_some()));
+    row::put(&mut *got, 3, a.trap.unwrap_or(0));
     let h = a.hart;
     state::shown(h, got, 4);
 }

@@ -52,13 +52,13 @@ pub fn chained(h: Hart, mem: &mut [u8], map: &[u64]) -> Ran
         hart = g;
         steps = num::wrapping_add_u64(steps, a.count);
         runs += 1;
-        if a.trapped {
+        if let Some(cause) = a.trap {
             return Ran {
                 hart,
                 steps,
                 runs,
                 trapped: true,
-                cause: a.cause,
+                cause,
             };
         }
     }
