@@ -2,82 +2,87 @@
 // stand in specs/Call.antt. Who makes them is above: `run_machine`, and the boundary for C and Rust.
 #![tactic(auto)]
 
-ghost use Rattle.std.specs.Prelude.{◌≡◌, false, not, ltb};
-ghost use Rattle.word.specs.Choice.{pick};
+ghost use Rattle.std.specs.Prelude.{◌≡◌, Some, None};
 ghost use Rattle.step_hart.specs.Hart.{hart};
-ghost use Rattle.run_call.specs.Call.{refusal_of, run_refusal_of};
+ghost use Rattle.run_call.specs.Call.{number_of, refusal_of, run_refusal_of};
 
 use address_page::map;
 use csr_words::COUNT;
 use step_hart::{Hart, legal};
 
-// What a call answers. refusal is 0 where the call was taken, else the refusal's number (docs/HART.md, 2.3 to 2.7), and then the hart is
-// the one handed in and count is 0. cause is the last trap's, and 0 where there was none.
-#[derive(Clone, Copy)]
-pub struct Answer {
-    pub refusal: u64,
-    pub hart: Hart,
-    pub count: u64,
-    pub trapped: bool,
-    pub cause: u64,
+// Why a call was not taken: refusals 1 to 4 (docs/HART.md, 2.3 to 2.7).
+#[derive(Clone, Copy, PartialEq, Eq, Debug)]
+pub enum Refusal {
+    Hart = 1,
+    Memory = 2,
+    Map = 3,
+    Budget = 4,
 }
 
-// The lowest number that applies, or 0.
-fn lowest(legal: bool, memory: bool, map: bool) -> u64
-    ensures { result ≡ pick (not legal) 1 (pick memory 2 (pick map 3 0)) }
-{
-    if legal {
-        if memory {
-            return 2;
-        }
-        if map {
-            return 3;
-        }
-        return 0;
+impl Refusal {
+    // The refusal's number.
+    pub fn number(self) -> u64
+        ensures { result ≡ number_of self }
+    {
+        self as u64
     }
-    1
+}
+
+// What a call answers. Where it was refused, the hart is the one handed in and count is 0. trap is the last trap's cause, if there was one.
+#[derive(Clone, Copy)]
+pub struct Answer {
+    pub refusal: Option<Refusal>,
+    pub hart: Hart,
+    pub count: u64,
+    pub trap: Option<u64>,
 }
 
 // Refusals 1 to 3, of the hart of these words: one by value would be copied to be asked.
-pub fn refusal(x: &[u64; 32], w: &[u64; COUNT], mem: &[u8], map: &[u64]) -> u64
+pub fn step_refusal(x: &[u64; 32], w: &[u64; COUNT], mem: &[u8], map: &[u64]) -> Option<Refusal>
     ensures { result ≡ refusal_of (hart x.now w.now) mem.now map.now }
 {
-    lowest(
-        legal::of_words(x, w),
-        memory::refused(mem.len() as u64),
-        map::refused(map),
-    )
+    if !legal::of_words(x, w) {
+        return Some(Refusal::Hart);
+    }
+    if memory::refused(mem.len() as u64) {
+        return Some(Refusal::Memory);
+    }
+    if map::refused(map) {
+        return Some(Refusal::Map);
+    }
+    None
 }
+
+// The largest budget that a run may have.
+const LARGEST: u64 = 1_000_000;
 
 // Refusals 1 to 4.
-pub fn run_refusal(x: &[u64; 32], w: &[u64; COUNT], mem: &[u8], map: &[u64], budget: u64) -> u64
+pub fn run_refusal(
+    x: &[u64; 32],
+    w: &[u64; COUNT],
+    mem: &[u8],
+    map: &[u64],
+    budget: u64,
+) -> Option<Refusal>
     ensures { result ≡ run_refusal_of budget (hart x.now w.now) mem.now map.now }
 {
-    let n = refusal(x, w, mem, map);
-    if n == 0 {
-        return over(budget);
+    if let Some(lower) = step_refusal(x, w, mem, map) {
+        return Some(lower);
     }
-    n
-}
-
-fn over(budget: u64) -> u64
-    ensures { result ≡ pick (ltb 1000000 budget) 4 0 }
-{
-    if 1_000_000 < budget {
-        return 4;
+    if LARGEST < budget {
+        return Some(Refusal::Budget);
     }
-    0
+    None
 }
 
 // A call that was not taken.
-pub fn refused(n: u64, h: Hart) -> Answer
-    ensures { result ≡ record { refusal = n; hart = h; count = 0; trapped = false; cause = 0 } }
+pub fn refused(refusal: Refusal, h: Hart) -> Answer
+    ensures { result ≡ record { refusal = Some refusal; hart = h; count = 0; trap = None } }
 {
     Answer {
-        refusal: n,
+        refusal: Some(refusal),
         hart: h,
         count: 0,
-        trapped: false,
-        cause: 0,
+        trap: None,
     }
 }

@@ -1,8 +1,7 @@
--- How a function of the quick way ends, and what that says of an effect: left undone, a register written, or an access made.
+-- How a function of the quick way ends, and what that says of an effect: a register written, or an access made.
 -- Assumes nothing.
-use Rattle.std.specs.Prelude.{Ok}
+use Rattle.std.specs.Prelude.{Option, Some, Ok}
 use Rattle.address_place.specs.Place.{PlaceOrFault}
-use mathlib.Core.Bool.{true, false}
 use mathlib.Core.List.{List}
 use mathlib.Core.Path.{◌≡◌, refl, sym, ◌∙◌}
 use Prim.Native.Nat.{ℕ}
@@ -19,22 +18,16 @@ use Rattle.step_effect.specs.Register.{put_of}
 use Rattle.step_effect.specs.declared.Effect.{Effect}
 use Rattle.step_effect.specs.declared.Effect.TheVariants.{Write}
 use Rattle.csr_words.specs.Words.{◌but◌≔◌, SSP}
-use Rattle.run_done.specs.Moves.{Applied, Does}
-use Rattle.run_done.specs.declared.Tried.{Tried}
+use Rattle.run_done.specs.Moves.{Applied, Done}
 
 -- what a decoder's function says of the parts of a word that other functions gave
 pub read : (f : Fields → ℕ → Instruction) {a b : Fields} {u v : ℕ} {i j : Instruction} → a ≡ b → u ≡ v → i ≡ f a u → i ≡ j → f b v ≡ j
 read f p q h e = rw (← p, ← q) (sym h ∙ e)
 
--- undone, nothing changed: any effect
-pub undone_does : (t : Tried) (p : ℕ) → t ≡ record { done = false; pc = p } → (e : Effect) (x rest m : List ℕ)
-    → Does t.done e x rest m t.pc x rest m
-undone_does t p h e x rest m = rw h (refl, refl, refl)
-
 -- a register was written: the effect that says so
-pub wrote_does : (t : Tried) (rd v next : ℕ) (x x' : List ℕ) → (t ≡ record { done = true; pc = next }) × (x' ≡ put_of rd v x)
+pub wrote_does : (t : Option ℕ) (rd v next : ℕ) (x x' : List ℕ) → (t ≡ Some next) × (x' ≡ put_of rd v x)
     → (e : Effect) → e ≡ Write rd v next → (rest m : List ℕ)
-    → Does t.done e x rest m t.pc x' rest m
+    → Done t e x rest m x' rest m
 wrote_does t rd v next x x' h e f rest m = rw (h.0, f) (refl, h.1, refl, refl)
 
 -- an access was made at its place: what it does there
@@ -53,6 +46,6 @@ popped p q v ssp next x rest m pc' rest' e f h =
     placed Pop p q 0 v 0 ssp next x rest m pc' x rest' m e (rw (eq-eqb _ _ f) (h.0, refl, h.1, refl))
 
 -- one effect in two ways
-pub does_as : (t : Tried) (e f : Effect) (x rest m x' rest' m' : List ℕ) → e ≡ f → Does t.done f x rest m t.pc x' rest' m'
-    → Does t.done e x rest m t.pc x' rest' m'
+pub does_as : (t : Option ℕ) (e f : Effect) (x rest m x' rest' m' : List ℕ) → e ≡ f → Done t f x rest m x' rest' m'
+    → Done t e x rest m x' rest' m'
 does_as t e f x rest m x' rest' m' h d = rw h d

@@ -2,7 +2,7 @@
 -- Rule 10.10 of docs/HART.md.
 --
 -- Below, x are the registers, rest the hart's other words, m memory; a name with ' is what it is afterwards. s is what the hart's mode and CSRs say.
-use Rattle.std.specs.Prelude.{Bool, true, false, List, ◌≡◌, ℕ}
+use Rattle.std.specs.Prelude.{Bool, true, false, Option, Some, None, List, ◌≡◌, ℕ}
 use Rattle.word.specs.declared.field.Fields.{Fields}
 use Rattle.word.specs.Sum.{sum_of}
 use Rattle.isa.specs.declared.Instruction.{Instruction}
@@ -36,9 +36,14 @@ abbrev pub Does : (done : Bool) → Effect → (x rest m : List ℕ) → (pc' : 
 Does true e x rest m pc' x' rest' m' = Applied e x rest m pc' x' rest' m'
 Does false e x rest m pc' x' rest' m' = (x' ≡ x) × (rest' ≡ rest) × (m' ≡ m)
 
+-- the same of what tells where pc goes on, if the instruction was done
+abbrev pub Done : Option ℕ → Effect → (x rest m : List ℕ) → (x' rest' m' : List ℕ) → Type 0
+Done (Some pc') e x rest m x' rest' m' = Does true e x rest m pc' x' rest' m'
+Done None e x rest m x' rest' m' = Does false e x rest m 0 x' rest' m'
+
 -- what a load with these fields and this offset puts into its register, from address a and memory m, where loads are neither masked nor translated
-abbrev pub Loads : (known : Bool) → Instruction → Fields → (off a : ℕ) → (m : List ℕ) → (v : ℕ) → Type 0
-Loads true i f off a m v =
+abbrev pub Loads : Option ℕ → Instruction → Fields → (off a : ℕ) → (m : List ℕ) → Type 0
+Loads (Some v) i f off a m =
     (w pc ssp : ℕ) (x map : List ℕ) (s : Setting) → flat_of s.control ≡ true → a ≡ sum_of (reg_of x f.rs1) off
     → execute_of i w x pc ssp s m map ≡ Write f.rd v (next_of pc)
-Loads false i f off a m v = Unit {0}
+Loads None i f off a m = Unit {0}

@@ -1,10 +1,3 @@
-// What it is that an instruction was done in place, or left undone, and how an access ends there: definitions and their laws, no function. The quick way's
+// What it is that an instruction was done in place, or left undone: definitions and their laws, no function. The quick way's
 // accesses (`run_moves`) and what a form does (`run_act`) stand above, and neither has to wait for the other to be proved.
 #![tactic(auto)]
-
-// Whether an instruction was done, and then pc after it.
-#[derive(Clone, Copy)]
-pub struct Tried {
-    pub done: bool,
-    pub pc: u64,
-}

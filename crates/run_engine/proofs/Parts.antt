@@ -6,19 +6,24 @@ use mathlib.Core.Path.{◌≡◌, refl, sym, ap, ◌∙◌}
 use Prim.Native.Nat.{ℕ, zero, suc, ◌+◌, ◌-◌, ◌<◌, ◌≤◌}
 use native.Mathlib.Nat.{add_assoc}
 use native.Mathlib.Omega.{arith}
+use Rattle.std.specs.Option.{is_some}
 use Rattle.step_meaning.specs.declared.Source.{Source}
 use Rattle.step_meaning.specs.declared.Source.TheVariants.{Fetch}
 use Rattle.step_hart.specs.Run.{Run, after, followed, run_from, run_of, Midway}
 use Rattle.step_hart.specs.Step.{Outcome, step_from}
 use Rattle.step_hart.specs.declared.Hart.{Hart}
 use Rattle.step_hart.proofs.Compose.{onward, run_composes_from, run_count}
-use Rattle.step_hart.proofs.Turns.{start}
+use Rattle.step_hart.proofs.Turns.{start, told_trapped}
 use Rattle.run_engine.specs.Told.{told_of}
 use Rattle.run_engine.specs.declared.run.Told.{Told}
 
 -- what is told of a run, and the hart and memory at its end
 abbrev pub Tells : Run → Told → Hart → (m : List ℕ) → Type 0
 Tells run t h m = (t ≡ told_of run) × ((h ≡ run.hart) × (m ≡ run.memory))
+
+-- whether a run trapped is told
+trapped_as_told : (r : Run) (t : Told) → t ≡ told_of r → r.trapped ≡ is_some t.trap
+trapped_as_told r t e = sym (told_trapped r.trapped r.cause) ∙ ap (λ (u : Told). is_some u.trap) (sym e)
 
 -- a run takes no more steps than its budget
 
@@ -68,8 +73,8 @@ module _ (whole : Run) (budget left n : ℕ) (source : Source) (g : Hart) (m map
   abbrev part : Run
   part = run_from source n g m map
 
-  trapped_said : part.trapped ≡ t.trapped
-  trapped_said = sym (ap (λ (u : Told). u.trapped) tells.0)
+  trapped_said : part.trapped ≡ is_some t.trap
+  trapped_said = trapped_as_told part t tells.0
 
   wholly : (rest : Run) → run_from source (n + (left - n)) g m map ≡ rest → whole ≡ after (budget - left) rest
   wholly rest e =
@@ -77,26 +82,26 @@ module _ (whole : Run) (budget left n : ℕ) (source : Source) (g : Hart) (m map
       now.1 ∙ ap (λ (k : ℕ). after (budget - left) (run_from source k g m map)) s ∙ ap (after (budget - left)) e
 
   -- they did not trap
-  pub passes : 0 < n → t.trapped ≡ false → Midway whole budget (left - n) Fetch h m' map
+  pub passes : 0 < n → is_some t.trap ≡ false → Midway whole budget (left - n) Fetch h m' map
   passes some q =
       let k : budget - left + n ≡ budget - (left - n) = omega (arith, le, now.0) in
       rw (tells.1.0, tells.1.1)
       (omega (arith, now.0), wholly _ (passed source (left - n) g m map n some (trapped_said ∙ q)) ∙ rw (← add_assoc, k))
 
   -- they trapped
-  pub ends : (r : Told) → t.trapped ≡ true → r ≡ record { count = budget - left + t.count; trapped = true; cause = t.cause } → Tells whole r h m'
+  pub ends : (r : Told) → is_some t.trap ≡ true → r ≡ record { count = budget - left + t.count; trap = t.trap } → Tells whole r h m'
   ends r q e =
       let p : part.trapped ≡ true = trapped_said ∙ q in
-      rw (wholly part (trapped_in source (left - n) g m map n p), e, tells.0, p) (refl, tells.1)
+      rw (wholly part (trapped_in source (left - n) g m map n p), e, tells.0) (refl, tells.1)
 
 -- the first n steps of a run
 module _ (source : Source) (budget n : ℕ) (g : Hart) (m map : List ℕ) (le : n ≤ budget) (t : Told) (h : Hart) (m' : List ℕ)
     (tells : Tells (run_from source n g m map) t h m') where
   -- they trapped
-  pub ends_first : t.trapped ≡ true → Tells (run_from source budget g m map) t h m'
+  pub ends_first : is_some t.trap ≡ true → Tells (run_from source budget g m map) t h m'
   ends_first q =
       let s : budget ≡ n + (budget - n) = omega (arith, le) in
-      let p : (run_from source n g m map).trapped ≡ true = sym (ap (λ (u : Told). u.trapped) tells.0) ∙ q in
+      let p : (run_from source n g m map).trapped ≡ true = trapped_as_told (run_from source n g m map) t tells.0 ∙ q in
       rw (ap (λ (k : ℕ). run_from source k g m map) s ∙ trapped_in source (budget - n) g m map n p) tells
 
   -- they are all
@@ -104,8 +109,8 @@ module _ (source : Source) (budget n : ℕ) (g : Hart) (m map : List ℕ) (le : 
   ends_there e = rw e tells
 
   -- and then the rest
-  pub ends_later : 0 < n → t.trapped ≡ false → (u r : Told) (i : Hart) (m'' : List ℕ) → Tells (run_of (budget - n) h m' map) u i m''
-      → r ≡ record { count = n + u.count; trapped = u.trapped; cause = u.cause } → Tells (run_from source budget g m map) r i m''
+  pub ends_later : 0 < n → is_some t.trap ≡ false → (u r : Told) (i : Hart) (m'' : List ℕ) → Tells (run_of (budget - n) h m' map) u i m''
+      → r ≡ record { count = n + u.count; trap = u.trap } → Tells (run_from source budget g m map) r i m''
   ends_later some q u r i m'' rest e =
       let k : budget - (budget - n) ≡ n = omega (arith, le) in
       let p = passes (run_from source budget g m map) budget budget n source g m map (start source budget g m map) le t h m' tells some q in

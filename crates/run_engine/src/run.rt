@@ -12,22 +12,11 @@ use csr_words::{COUNT, setting};
 use step_hart::{Hart, step};
 use step_meaning::{Context, Source};
 
-// What a run tells beside the words: the steps taken, the trapping one included, and the last trap's cause if there was one (else 0).
+// What a run tells beside the words: the steps taken, the trapping one included, and the last trap's cause if there was one.
 #[derive(Clone, Copy)]
 pub struct Told {
     pub count: u64,
-    pub trapped: bool,
-    pub cause: u64,
-}
-
-fn report(count: u64, trapped: bool, cause: u64) -> Told
-    ensures { result ≡ record { count = count; trapped = trapped; cause = cause } }
-{
-    Told {
-        count,
-        trapped,
-        cause,
-    }
+    pub trap: Option<u64>,
 }
 
 // What is known beforehand about the steps of a hart with these words, until its mode or a CSR that counts for it changes.
@@ -64,20 +53,25 @@ fn short(
     while 0 < left {
         left = run_glide::glide(x, w, from, k, mem, map, left);
         if left == 0 {
-            return report(budget, false, 0);
+            break;
         }
         let t = step::one(x, w, from, k.setting, mem, map);
         from = Source::Fetch;
         left = left - 1;
-        if t.trapped {
-            return report(budget - left, true, t.cause);
+        if t.trap.is_some() {
+            return Told {
+                count: budget - left,
+                trap: t.trap,
+            };
         }
         if t.switched {
             k = known(w);
-            continue;
         }
     }
-    report(budget, false, 0)
+    Told {
+        count: budget,
+        trap: None,
+    }
 }
 
 // How many steps are taken the short way before the memo is worth its clearing (docs/SPEED.md).
@@ -85,16 +79,6 @@ const FIRST: u64 = 1024;
 
 // How many steps of the fast path are many beside its clearing.
 const FAR: u64 = 32768;
-
-// The smaller of the two, and so not 0 where neither is.
-fn few(a: u64, b: u64) -> u64
-    ensures { (result ≤ a) × (result ≤ b) × (0 < a → 0 < b → 0 < result) }
-{
-    if a < b {
-        return a;
-    }
-    b
-}
 
 // The most steps that are taken the short way between two turns of the fast path.
 const MOST: u64 = 1048576;
@@ -107,13 +91,7 @@ fn pause(steps: u64, wait: u64) -> u64
     if FAR < steps {
         return 1;
     }
-    if wait < FIRST {
-        return FIRST;
-    }
-    if wait < MOST {
-        return wait * 2;
-    }
-    MOST
+    wait.clamp(FIRST / 2, MOST / 2) * 2
 }
 
 // A run of many steps, on the fast path as long as it goes. That is called from two places, so that the compiler leaves its memo out of the frame of
@@ -131,16 +109,22 @@ fn long(x: &mut [u64; 32], w: &mut [u64; COUNT], mem: &mut [u8], map: &[u64], bu
     let mut wait = 0;
     while 0 < left {
         wait = pause(steps, wait);
-        let n = few(left, wait);
-        let t = short(x, w, Source::Fetch, mem, map, n);
-        if t.trapped {
-            return report(budget - left + t.count, true, t.cause);
+        let n = left.min(wait);
+        let part = short(x, w, Source::Fetch, mem, map, n);
+        if part.trap.is_some() {
+            return Told {
+                count: budget - left + part.count,
+                trap: part.trap,
+            };
         }
         let rest = run_fast::fast(x, w, mem, map, left - n);
         steps = left - n - rest;
         left = rest;
     }
-    report(budget, false, 0)
+    Told {
+        count: budget,
+        trap: None,
+    }
 }
 
 pub fn run(
@@ -158,16 +142,16 @@ pub fn run(
     ensures memory { mem.new ≡ (run_from source budget (hart x.old w.old) mem.old
         map.now).memory }
 {
-    let first = few(budget, FIRST);
+    let first = budget.min(FIRST);
     let t = short(x, w, source, mem, map, first);
-    if t.trapped {
-        return t;
-    }
-    if budget == first {
+    if t.trap.is_some() || budget == first {
         return t;
     }
     let u = long(x, w, mem, map, budget - first);
-    report(first + u.count, u.trapped, u.cause)
+    Told {
+        count: first + u.count,
+        trap: u.trap,
+    }
 }
 
 // What a run of a hart by value hands back.
@@ -175,8 +159,7 @@ pub fn run(
 pub struct Ran {
     pub hart: Hart,
     pub count: u64,
-    pub trapped: bool,
-    pub cause: u64,
+    pub trap: Option<u64>,
 }
 
 // The same of a hart by value.
@@ -185,15 +168,10 @@ pub fn of_hart(mut h: Hart, source: Source, mem: &mut [u8], map: &[u64], budget:
     ensures answer { result ≡ ran_of (run_from source budget h mem.old map.now) }
     ensures memory { mem.new ≡ (run_from source budget h mem.old map.now).memory }
 {
-    let mut x = h.x;
-    let mut w = h.words;
-    let t = run(&mut x, &mut w, source, mem, map, budget);
-    h.x = x;
-    h.words = w;
+    let told = run(&mut h.x, &mut h.words, source, mem, map, budget);
     Ran {
         hart: h,
-        count: t.count,
-        trapped: t.trapped,
-        cause: t.cause,
+        count: told.count,
+        trap: told.trap,
     }
 }

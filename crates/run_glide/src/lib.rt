@@ -9,12 +9,11 @@ ghost use Rattle.step_meaning.specs.declared.Source.TheVariants.{Fetch};
 ghost use Rattle.csr_words.specs.Setting.{setting_of};
 ghost use Rattle.step_hart.specs.Hart.{hart};
 ghost use Rattle.step_hart.specs.Run.{run_from, Midway};
-ghost use Rattle.run_turn.specs.Glide.{Straight, Fetches, Turned, Glides};
+ghost use Rattle.run_turn.specs.Glide.{Straight, Fetches, Taken, Glides};
 
 use address_place::window;
 use address_place::window::Window;
 use csr_words::{COUNT, ELP, PC, sized};
-use run_done::Tried;
 use run_quick::opcodes;
 use run_turn::Glided;
 use step_meaning::{Context, Source};
@@ -29,22 +28,17 @@ fn instruction(
     k: Context,
     mem: &mut [u8],
     map: &[u64],
-) -> Tried
+) -> Option<u64>
     requires { (length mem.old ≤ 2 ^ 20) × Straight w.old × Knows k (setting_of w.old) × Fetches word pc w.old mem.old map.now }
-    ensures { Turned result.done pc x.old w.old mem.old map.now result.pc x.new
-        w.new mem.new }
+    ensures { Taken result pc x.old w.old mem.old map.now x.new w.new mem.new }
 {
-    let t = opcodes::word(word, x, w, pc, k, mem, map);
-    if t.done {
-        return t;
+    if let Some(next) = opcodes::word(word, x, w, pc, k, mem, map) {
+        return Some(next);
     }
     if run_csrs::handle(word, x, w) {
-        return Tried {
-            done: true,
-            pc: sum::sum(pc, 4),
-        };
+        return Some(sum::sum(pc, 4));
     }
-    t
+    None
 }
 
 // The step at pc, where the window shows its word.
@@ -56,17 +50,13 @@ fn turn(
     k: Context,
     mem: &mut [u8],
     map: &[u64],
-) -> Tried
+) -> Option<u64>
     requires { (length mem.old ≤ 2 ^ 20) × Straight w.old × Knows k (setting_of w.old)
         × Shows v k.setting.control map.now (length mem.old) }
-    ensures { Turned result.done pc x.old w.old mem.old map.now result.pc x.new
-        w.new mem.new }
+    ensures { Taken result pc x.old w.old mem.old map.now x.new w.new mem.new }
 {
-    let f = opcodes::fetch(v, pc, mem);
-    if f.seen {
-        return instruction(f.word, x, w, pc, k, mem, map);
-    }
-    Tried { done: false, pc }
+    let word = opcodes::fetch(v, pc, mem)?;
+    instruction(word, x, w, pc, k, mem, map)
 }
 
 // As many steps as the quick way takes in a window.
@@ -87,17 +77,16 @@ fn stretch(
     ensures words { Straight w.new × (setting_of w.new ≡ setting_of w.old) }
 {
     let mut pc = start;
-    let mut left = budget;
-    while 0 < left {
-        let t = turn(x, w, pc, v, k, mem, map);
-        if t.done {
-            pc = t.pc;
-            left = left - 1;
-            continue;
-        }
-        return Glided { pc, left };
+    for taken in 0..budget {
+        let Some(next) = turn(x, w, pc, v, k, mem, map) else {
+            return Glided {
+                pc,
+                left: budget - taken,
+            };
+        };
+        pc = next;
     }
-    Glided { pc, left }
+    Glided { pc, left: 0 }
 }
 
 // From window to window. A step that its window covers and that was not taken has to take the slow path.
@@ -115,22 +104,19 @@ fn steps(
         w.new mem.new }
     ensures words { Straight w.new × (setting_of w.new ≡ setting_of w.old) }
 {
-    let mut pc = start;
-    let mut left = budget;
-    while 0 < left {
-        let v = window::around(k.setting.control, pc, map, mem);
-        let g = stretch(x, w, pc, v, k, mem, map, left);
-        if g.left < left {
-            pc = g.pc;
-            left = g.left;
-            if window::covers(v, pc) {
-                return g;
-            }
-            continue;
+    let mut at = Glided {
+        pc: start,
+        left: budget,
+    };
+    while 0 < at.left {
+        let v = window::around(k.setting.control, at.pc, map, mem);
+        let next = stretch(x, w, at.pc, v, k, mem, map, at.left);
+        if at.left <= next.left || window::covers(v, next.pc) {
+            return next;
         }
-        return g;
+        at = next;
     }
-    Glided { pc, left }
+    at
 }
 
 // Whether the next step has to take the slow path: its word is given, or a landing pad is expected.

@@ -17,20 +17,16 @@ fn stepped(h: Hart, source: Source, mem: &mut [u8], map: &[u64]) -> Answer
     ensures answer { result ≡ (step_from_call source h mem.old map.now).answer }
     ensures memory { mem.new ≡ (step_from_call source h mem.old map.now).memory }
 {
-    let w = h.words;
-    let n = run_call::refusal(&h.x, &w, mem, map);
-    if n == 0 {
-        let r = h.step(source, mem, map);
-        let g = r.hart;
-        return Answer {
-            refusal: 0,
-            hart: g,
-            count: 1,
-            trapped: r.trapped,
-            cause: r.cause,
-        };
+    if let Some(refusal) = run_call::step_refusal(&h.x, &h.words, mem, map) {
+        return run_call::refused(refusal, h);
     }
-    run_call::refused(n, h)
+    let after = h.step(source, mem, map);
+    Answer {
+        refusal: None,
+        hart: after.hart,
+        count: 1,
+        trap: after.trap,
+    }
 }
 
 // One step, which fetches at pc.
@@ -54,18 +50,14 @@ pub fn run(h: Hart, mem: &mut [u8], map: &[u64], budget: u64) -> Answer
     ensures answer { result ≡ (run_call_of budget h mem.old map.now).answer }
     ensures memory { mem.new ≡ (run_call_of budget h mem.old map.now).memory }
 {
-    let w = h.words;
-    let n = run_call::run_refusal(&h.x, &w, mem, map, budget);
-    if n == 0 {
-        let r = run::of_hart(h, Source::Fetch, mem, map, budget);
-        let end = r.hart;
-        return Answer {
-            refusal: 0,
-            hart: end,
-            count: r.count,
-            trapped: r.trapped,
-            cause: r.cause,
-        };
+    if let Some(refusal) = run_call::run_refusal(&h.x, &h.words, mem, map, budget) {
+        return run_call::refused(refusal, h);
     }
-    run_call::refused(n, h)
+    let ran = run::of_hart(h, Source::Fetch, mem, map, budget);
+    Answer {
+        refusal: None,
+        hart: ran.hart,
+        count: ran.count,
+        trap: ran.trap,
+    }
 }

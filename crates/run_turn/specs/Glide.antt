@@ -2,7 +2,7 @@
 -- register. Rule 10.10 of docs/HART.md.
 --
 -- Below, x are the registers, w the hart's other words, m memory; a name with ' is what it is afterwards.
-use Rattle.std.specs.Prelude.{Bool, true, false, List, ◌≡◌, ℕ, length, Ok}
+use Rattle.std.specs.Prelude.{Bool, true, false, Option, Some, None, List, ◌≡◌, ℕ, length, Ok}
 use Rattle.step_meaning.specs.declared.Source.TheVariants.{Fetch}
 use Rattle.step_meaning.specs.Plan.{fetched_of}
 use Rattle.csr_words.specs.Words.{◌of◌, ◌but◌≔◌, COUNT, PC, ELP}
@@ -34,6 +34,11 @@ Turned true pc x w m map pc' x' w' m' =
     × Straight w'
     × (setting_of w' ≡ setting_of w)
 Turned false pc x w m map pc' x' w' m' = (x' ≡ x) × (w' ≡ w) × (m' ≡ m)
+
+-- the same of what tells where pc goes on, if a step was taken
+abbrev pub Taken : Option ℕ → (pc : ℕ) → (x w m map : List ℕ) → (x' w' m' : List ℕ) → Type 0
+Taken (Some pc') pc x w m map x' w' m' = Turned true pc x w m map pc' x' w' m'
+Taken None pc x w m map x' w' m' = Turned false pc x w m map pc x' w' m'
 
 -- some of a run's steps were taken, and none of them trapped
 abbrev pub Glides : (budget pc : ℕ) → (x w m map : List ℕ) → Glided → (x' w' m' : List ℕ) → Type 0

@@ -1,16 +1,16 @@
 -- A refusal changes nothing: where the result of a call is not 0, every word of x and rest and every byte of memory is as given, and
 -- the answer is 0, 0, 0 (`step_keeps`, `step_word_keeps`, `run_keeps`; for a load `load_keeps`). The words may be any, also those that are no hart.
 -- Assumes nothing.
-use mathlib.Core.Bool.{Bool, true, false}
+use Rattle.std.specs.Prelude.{Option, Some, None}
 use mathlib.Core.List.{List, [], ◌∷◌}
 use mathlib.Core.Path.{◌≡◌, refl, ap, ◌∙◌}
 use Rattle.std.specs.Prelude.{Option, Some, None, Result, Ok, Err, is_err}
 use Prim.Native.Nat.{ℕ}
-use lib.Dec.{eqb}
 use Rattle.step_meaning.specs.declared.Source.TheVariants.{Fetch, Given}
 use Rattle.step_hart.specs.Hart.{hart}
 use Rattle.step_hart.specs.Run.{Run, once, run_of}
 use Rattle.step_hart.specs.Step.{step_from}
+use Rattle.run_call.specs.declared.Refusal.{Refusal}
 use Rattle.run_call.specs.Call.{called_of, refusal_of, run_refusal_of, step_from_call, run_call_of}
 use Rattle.intel_hex.specs.Load.{line_of, load_hex_of}
 use Rattle.intel_hex.specs.declared.Refusal.{Refusal}
@@ -23,15 +23,10 @@ abbrev pub Kept : (x rest m : List ℕ) → Left → Type 0
 Kept x rest m l = (l.x ≡ x) × (l.rest ≡ rest) × (l.memory ≡ m) × (l.answer ≡ (0 ∷ 0 ∷ 0 ∷ []))
 
 module _ (x rest m : List ℕ) (r : Run) where
-  -- n is the refusal's number
-  by_number : (n : ℕ) → (z : Bool) → eqb n 0 ≡ z → ((left_by (called_of n (hart x rest) m r)).result ≡ 0 → ⊥)
-      → Kept x rest m (left_by (called_of n (hart x rest) m r))
-  by_number n true q ne = absurd (ne (rw (q) refl))
-  by_number n false q ne = rw (q) (refl, refl, refl, refl)
-
   -- each call is `left_by` of such a `called_of`
-  refusal_keeps : (n : ℕ) → ((left_by (called_of n (hart x rest) m r)).result ≡ 0 → ⊥) → Kept x rest m (left_by (called_of n (hart x rest) m r))
-  refusal_keeps n = by_number n (eqb n 0) refl
+  refusal_keeps : (n : Option Refusal) → ((left_by (called_of n (hart x rest) m r)).result ≡ 0 → ⊥) → Kept x rest m (left_by (called_of n (hart x rest) m r))
+  refusal_keeps None ne = absurd (ne refl)
+  refusal_keeps (Some n) ne = (refl, refl, refl, refl)
 
 module _ (x rest m map : List ℕ) where
   pub step_keeps : ((step_left_of x rest m map).result ≡ 0 → ⊥) → Kept x rest m (step_left_of x rest m map)

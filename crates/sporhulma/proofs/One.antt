@@ -1,27 +1,23 @@
 -- Each of the three calls is a run whose first word comes from a source: a step is a run of one, to which refusal 4 never applies.
 -- Assumes nothing.
-use mathlib.Core.Bool.{Bool, true, false}
+use mathlib.Core.Bool.{false}
+use Rattle.std.specs.Prelude.{Option, Some, None}
 use mathlib.Core.List.{List}
-use mathlib.Core.Path.{◌≡◌, refl, sym, ap}
+use mathlib.Core.Path.{◌≡◌, refl, ap}
 use Prim.Native.Nat.{ℕ}
-use borrow.Author.Tests.{eqb-true}
-use lib.Dec.{eqb}
-use Rattle.word.specs.Choice.{pick}
 use Rattle.step_meaning.specs.declared.Source.{Source}
 use Rattle.step_meaning.specs.declared.Source.TheVariants.{Fetch, Given}
 use Rattle.step_hart.specs.Hart.{hart}
 use Rattle.step_hart.specs.Run.{run_from}
 use Rattle.step_hart.specs.declared.Hart.{Hart}
 use Rattle.step_hart.proofs.Turns.{one_step}
-use Rattle.run_call.specs.Call.{refusal_of, run_refusal_of, called_of, step_from_call, run_call_of}
+use Rattle.run_call.specs.declared.Refusal.{Refusal}
+use Rattle.run_call.specs.Call.{refusal_of, or_over, run_refusal_of, called_of, step_from_call, run_call_of}
 use Rattle.sporhulma.specs.Boundary.{left_by, step_left_of, step_word_left, run_left, left_from}
 
-none_more : (n : ℕ) → pick (eqb n 0) 0 n ≡ n
-none_more n = go (eqb n 0) refl
-  where
-    go : (b : Bool) → eqb n 0 ≡ b → pick b 0 n ≡ n
-    go true e = sym (eqb-true n 0 e)
-    go false e = refl
+none_more : (n : Option Refusal) → or_over n false ≡ n
+none_more None = refl
+none_more (Some n) = refl
 
 step_called : (source : Source) (h : Hart) (m map : List ℕ)
     → step_from_call source h m map ≡ called_of (run_refusal_of 1 h m map) h m (run_from source 1 h m map)

@@ -1,12 +1,12 @@
 -- The calls for C: what each leaves, in every word and byte, through the definitions of crate `run_call`. Rule 2.12 of docs/HART.md.
 --
 -- Below, x and rest are the words of the hart, m memory, map the page map.
-use Rattle.std.specs.Prelude.{List, [], ◌∷◌, ℕ}
+use Rattle.std.specs.Prelude.{Option, Some, None, List, [], ◌∷◌, ℕ}
 use Rattle.step_meaning.specs.declared.Source.{Source}
-use Rattle.csr_words.specs.Words.{flag_of}
 use Rattle.step_hart.specs.Run.{run_from}
 use Rattle.step_hart.specs.Hart.{hart}
-use Rattle.run_call.specs.Call.{Called, run_refusal_of, called_of, step_call_of, step_word_call, run_call_of}
+use Rattle.run_call.specs.declared.Refusal.{Refusal}
+use Rattle.run_call.specs.Call.{Called, number_of, run_refusal_of, called_of, step_call_of, step_word_call, run_call_of}
 
 -- what a call leaves: its result, the hart's words, the three words of its answer (count, trapped, cause), and memory
 pub record Left : Type 0 where
@@ -16,13 +16,27 @@ pub record Left : Type 0 where
   pub answer : List ℕ
   pub memory : List ℕ
 
+-- the result: the refusal's number, and 0 where there is none
+abbrev pub result_of : Option Refusal → ℕ
+result_of None = 0
+result_of (Some n) = number_of n
+
+-- whether a run trapped, as 1 or 0, and the cause, or 0
+abbrev pub trapped_word : Option ℕ → ℕ
+trapped_word None = 0
+trapped_word (Some cause) = 1
+
+abbrev pub cause_word : Option ℕ → ℕ
+cause_word None = 0
+cause_word (Some cause) = cause
+
 -- what a call on the hart of the words leaves, as words; any words may be given, and those of no hart are refusal 1 (an elp of neither 0 nor 1 too)
 abbrev pub left_by : Called → Left
 left_by c = record {
-  result = c.answer.refusal;
+  result = result_of c.answer.refusal;
   x = c.answer.hart.x;
   rest = c.answer.hart.words;
-  answer = c.answer.count ∷ flag_of c.answer.trapped ∷ c.answer.cause ∷ [];
+  answer = c.answer.count ∷ trapped_word c.answer.trap ∷ cause_word c.answer.trap ∷ [];
   memory = c.memory;
 }
 

@@ -13,15 +13,6 @@ use csr_words::COUNT;
 use run_engine::run;
 use step_meaning::Source;
 
-// A refusal's number, and count 0.
-fn refused(n: u64, answer: &mut [u64; 3]) -> u64
-    ensures result { result ≡ n }
-    ensures answer { answer.new ≡ (0 ∷ 0 ∷ 0 ∷ []) }
-{
-    *answer = [0, 0, 0];
-    n
-}
-
 // A run whose first word comes from `source`. The caller's words are the hart: nothing is copied, in or out.
 fn call(
     x: &mut [u64; 32],
@@ -42,13 +33,16 @@ fn call(
     ensures answer { answer.new ≡ (left_from source budget x.old rest.old mem.old
         map.now).answer }
 {
-    let n = run_call::run_refusal(x, rest, mem, map, budget);
-    if n == 0 {
-        let t = run::run(x, rest, source, mem, map, budget);
-        *answer = [t.count, u64::from(t.trapped), t.cause];
-        return 0;
+    if let Some(refusal) = run_call::run_refusal(x, rest, mem, map, budget) {
+        *answer = [0, 0, 0];
+        return refusal.number();
     }
-    refused(n, answer)
+    let t = run::run(x, rest, source, mem, map, budget);
+    *answer = match t.trap {
+        Some(cause) => [t.count, 1, cause],
+        None => [t.count, 0, 0],
+    };
+    0
 }
 
 // One step, which fetches at pc.

@@ -6,19 +6,26 @@ use mathlib.Core.Path.{◌≡◌, refl, sym, ap, ◌∙◌}
 use Prim.Native.Nat.{ℕ, suc, ◌+◌, ◌-◌, ◌<◌, ◌≤◌}
 use native.Mathlib.Nat.{add_assoc}
 use native.Mathlib.Omega.{arith}
+use Rattle.std.specs.Prelude.{Option, Some}
+use Rattle.std.specs.Option.{is_some}
 use Rattle.step_meaning.specs.declared.Source.{Source}
 use Rattle.step_meaning.specs.declared.Source.TheVariants.{Fetch}
 use Rattle.step_effect.specs.declared.Effect.{Effect}
 use Rattle.step_effect.specs.declared.Effect.TheVariants.{Write, Jump, Pad, Store, Push, Pop, Swap, Privileged, Trap}
 use Rattle.step_hart.specs.Hart.{hart}
 use Rattle.step_hart.specs.Run.{Run, after, stayed, once, followed, run_from, Midway}
-use Rattle.step_hart.specs.Step.{Outcome, traps_of, cause_of, plan_of, step_from, stepped_of}
+use Rattle.step_hart.specs.Step.{Outcome, traps_of, cause_of, plan_of, step_from, stepped_of, trap_told}
 use Rattle.step_hart.specs.declared.Hart.{Hart}
 use Rattle.step_hart.specs.declared.methods.Stepped.{Stepped}
 
 -- registers and words are the hart
 pub same_hart : (h : Hart) (x w : List ℕ) → x ≡ h.x → w ≡ h.words → hart x w ≡ h
 same_hart h x w e f = rw (e, f)
+
+-- a trap is told where there was one
+pub told_trapped : (trapped : Bool) (cause : ℕ) → is_some (trap_told trapped cause) ≡ trapped
+told_trapped true cause = refl
+told_trapped false cause = refl
 
 pub start : (source : Source) (budget : ℕ) (h : Hart) (m map : List ℕ) → Midway (run_from source budget h m map) budget budget source h m map
 start source budget h m map =
@@ -72,14 +79,29 @@ module _ (whole : Run) (budget left : ℕ) (source : Source) (g : Hart) (m map :
       now.1 ∙ ap (λ (n : ℕ). after (budget - left) (run_from source n g m map)) s ∙ last_turn source (budget - left) (left - 1) g m map q ∙ rw k
 
   -- the same, of what the code has after a step: registers, words, memory, and what the step tells
-  module _ (some : 0 < left) (x w n : List ℕ) (trapped : Bool) (cause : ℕ)
+  module _ (some : 0 < left) (x w n : List ℕ) (trap : Option ℕ)
       (ex : x ≡ (step_from source g m map).hart.x) (ew : w ≡ (step_from source g m map).hart.words) (en : n ≡ (step_from source g m map).memory)
-      (et : trapped ≡ (step_from source g m map).trapped) (ec : cause ≡ (step_from source g m map).cause) where
-    pub goes_on : trapped ≡ false → Midway whole budget (left - 1) Fetch (hart x w) n map
-    goes_on q = rw (same_hart _ x w ex ew, en) (again some (sym et ∙ q))
+      (et : trap ≡ trap_told (step_from source g m map).trapped (step_from source g m map).cause) where
+    said : (step_from source g m map).trapped ≡ is_some trap
+    said = sym (told_trapped _ _) ∙ ap is_some (sym et)
 
-    pub ends : trapped ≡ true → whole ≡ record { hart = hart x w; memory = n; count = budget - (left - 1); trapped = true; cause = cause }
-    ends q = rw (same_hart _ x w ex ew, en, ec) (ended some (sym et ∙ q))
+    pub goes_on : is_some trap ≡ false → Midway whole budget (left - 1) Fetch (hart x w) n map
+    goes_on q = rw (same_hart _ x w ex ew, en) (again some (said ∙ q))
+
+    pub ends : is_some trap ≡ true
+        → (whole
+            ≡ record {
+              hart = hart x w;
+              memory = n;
+              count = budget - (left - 1);
+              trapped = true;
+              cause = (step_from source g m map).cause;
+            })
+        × (trap ≡ Some (step_from source g m map).cause)
+    ends q = (
+      rw (same_hart _ x w ex ew, en) (ended some (said ∙ q)),
+      et ∙ ap (λ (b : Bool). trap_told b (step_from source g m map).cause) (said ∙ q),
+    )
 
   -- the budget is spent
   pub spent : left ≤ 0 → whole ≡ record { hart = g; memory = m; count = budget; trapped = false; cause = 0 }
@@ -121,7 +143,7 @@ one_step source h m map =
     followed_once (step_from source h m map).trapped (step_from source h m map) refl (no_cause (plan_of source h m map))
 
 -- a step as it is handed back, from its registers, its words and what it tells
-pub handed_back : (o : Outcome) (x w : List ℕ) (trapped : Bool) (cause : ℕ)
-    → x ≡ o.hart.x → w ≡ o.hart.words → trapped ≡ o.trapped → cause ≡ o.cause
-    → ◌≡◌ {A = Stepped} (record { hart = hart x w; trapped = trapped; cause = cause }) (stepped_of o)
-handed_back o x w trapped cause e f g h = rw (e, f, g, h)
+pub handed_back : (o : Outcome) (x w : List ℕ) (trap : Option ℕ)
+    → x ≡ o.hart.x → w ≡ o.hart.words → trap ≡ trap_told o.trapped o.cause
+    → ◌≡◌ {A = Stepped} (record { hart = hart x w; trap = trap }) (stepped_of o)
+handed_back o x w trap e f g = rw (e, f, g)

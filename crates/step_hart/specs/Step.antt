@@ -2,7 +2,7 @@
 -- Rules 10.1 to 10.3 and 4.32 of docs/HART.md.
 --
 -- Below, h is the hart, m memory, e the effect.
-use Rattle.std.specs.Prelude.{Bool, true, false, List, ℕ}
+use Rattle.std.specs.Prelude.{Bool, true, false, Option, Some, None, List, ℕ}
 use Rattle.word.specs.Choice.{pick}
 use Rattle.isa.specs.declared.CsrOperation.{CsrOperation}
 use Rattle.csr.specs.declared.Csr.{Csr}
@@ -89,6 +89,11 @@ plan_of source h m map = effect_of source h.x (PC of h.words) (expected h.words)
 unfoldable pub step_from : Source → Hart → (m map : List ℕ) → Outcome
 step_from source h m map = outcome_of (plan_of source h m map) h m
 
+-- a trap as the code tells it: its cause, if there was one
+abbrev pub trap_told : (trapped : Bool) → (cause : ℕ) → Option ℕ
+trap_told true cause = Some cause
+trap_told false cause = None
+
 -- an outcome as the code hands it back, memory apart
 abbrev pub stepped_of : Outcome → Stepped
-stepped_of o = record { hart = o.hart; trapped = o.trapped; cause = o.cause }
+stepped_of o = record { hart = o.hart; trap = trap_told o.trapped o.cause }

@@ -4,29 +4,24 @@ ghost use Rattle.csr_words.specs.Setting.{setting_of};
 ghost use Rattle.step_effect.specs.Effect.{Stays};
 ghost use Rattle.step_transfer.specs.Commit.{memory_of};
 ghost use Rattle.step_hart.specs.Hart.{hart};
-ghost use Rattle.step_hart.specs.Step.{csr_of, privileged_of, apply_of, traps_of, cause_of};
+ghost use Rattle.step_hart.specs.Step.{csr_of, privileged_of, apply_of, traps_of, cause_of, trap_told};
 
 use csr::Csr;
 use csr_words::{COUNT, ELP, PC, SSP, returns, setting, slot, trap, warl};
 use isa::{CsrOperation, Width};
 use step_effect::{Effect, Privileged, csrs, register};
 
-// What a step tells: the trap's cause if it trapped (else 0), and whether what the mode and CSRs say may have changed.
+// What a step tells: the trap's cause if it trapped, and whether what the mode and CSRs say may have changed.
 #[derive(Clone, Copy)]
 pub struct Done {
-    pub trapped: bool,
-    pub cause: u64,
+    pub trap: Option<u64>,
     pub switched: bool,
 }
 
-fn says(trapped: bool, cause: u64, switched: bool) -> Done
-    ensures { result ≡ record { trapped = trapped; cause = cause; switched = switched } }
+fn says(trap: Option<u64>, switched: bool) -> Done
+    ensures { result ≡ record { trap = trap; switched = switched } }
 {
-    Done {
-        trapped,
-        cause,
-        switched,
-    }
+    Done { trap, switched }
 }
 
 // rd takes what the CSR showed, and the CSR what the instruction writes; whether what the mode and CSRs say may have changed.
@@ -80,56 +75,56 @@ pub fn apply(x: &mut [u64; 32], w: &mut [u64; COUNT], mem: &mut [u8], e: Effect)
     ensures registers { x.new ≡ (apply_of e (hart x.old w.old)).x }
     ensures words { w.new ≡ (apply_of e (hart x.old w.old)).words }
     ensures memory { mem.new ≡ memory_of e mem.old }
-    ensures told { (result.trapped ≡ traps_of e) × (result.cause ≡ cause_of e) }
+    ensures told { result.trap ≡ trap_told (traps_of e) (cause_of e) }
     ensures setting { result.switched ≡ false → setting_of w.new ≡ setting_of w.old }
 {
     match e {
         Effect::Write(rd, v, next) => {
             register::put(x, rd, v);
             w[PC] = next;
-            says(false, 0, false)
+            says(None, false)
         }
         Effect::Jump(rd, v, next, pad) => {
             register::put(x, rd, v);
             w[PC] = next;
             w[ELP] = u64::from(pad);
-            says(false, 0, false)
+            says(None, false)
         }
         Effect::Pad(next) => {
             w[PC] = next;
             w[ELP] = 0;
-            says(false, 0, false)
+            says(None, false)
         }
         Effect::Store(q, width, v, next) => {
             memory::store(mem, q.index(), width, v);
             w[PC] = next;
-            says(false, 0, false)
+            says(None, false)
         }
         Effect::Push(q, v, top, next) => {
             memory::store(mem, q.index(), Width::Double, v);
             w[PC] = next;
             w[SSP] = top;
-            says(false, 0, false)
+            says(None, false)
         }
         Effect::Pop(top, next) => {
             w[PC] = next;
             w[SSP] = top;
-            says(false, 0, false)
+            says(None, false)
         }
         Effect::Swap(rd, v, q, width, stored, next) => {
             memory::store(mem, q.index(), width, stored);
             register::put(x, rd, v);
             w[PC] = next;
-            says(false, 0, false)
+            says(None, false)
         }
         Effect::Privileged(k) => {
             let switched = privileged(x, w, k);
-            says(false, 0, switched)
+            says(None, switched)
         }
         Effect::Trap(cause, tval) => {
             let number = cause as u64;
             trap::enter(w, number, tval);
-            says(true, number, true)
+            says(Some(number), true)
         }
     }
 }

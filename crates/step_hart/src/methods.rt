@@ -11,12 +11,11 @@ use csr::Csr;
 use csr_words::{COUNT, MODE, MSTATUS, returns, setting, trap, warl};
 use step_meaning::Source;
 
-// What a step hands back: the hart after it, and the trap's cause if it trapped (0 where it did not).
+// What a step hands back: the hart after it, and the trap's cause if it trapped.
 #[derive(Clone, Copy)]
 pub struct Stepped {
     pub hart: Hart,
-    pub trapped: bool,
-    pub cause: u64,
+    pub trap: Option<u64>,
 }
 
 // A hart to start from: in M at address 0, and nothing set; UXL and SXL are 2.
@@ -37,17 +36,14 @@ impl Hart {
     pub fn legal(self) -> bool
         ensures { result ≡ legal self }
     {
-        let x = self.x;
-        let w = self.words;
-        legal::of_words(&x, &w)
+        legal::of_words(&self.x, &self.words)
     }
 
     // What a read of CSR n shows.
     pub fn csr_read(self, n: Csr) -> u64
         ensures { result ≡ shown_of n self.words }
     {
-        let w = self.words;
-        warl::shown(&w, n)
+        warl::shown(&self.words, n)
     }
 
     // The hart after a write of v to CSR n.
@@ -88,16 +84,11 @@ impl Hart {
         ensures answer { result ≡ stepped_of (step_from source self mem.old map.now) }
         ensures memory { mem.new ≡ (step_from source self mem.old map.now).memory }
     {
-        let mut x = self.x;
-        let mut w = self.words;
-        let s = setting::setting(&w);
-        let d = step::one(&mut x, &mut w, source, s, mem, map);
-        self.x = x;
-        self.words = w;
+        let s = setting::setting(&self.words);
+        let d = step::one(&mut self.x, &mut self.words, source, s, mem, map);
         Stepped {
             hart: self,
-            trapped: d.trapped,
-            cause: d.cause,
+            trap: d.trap,
         }
     }
 }

@@ -2,7 +2,7 @@
 ghost use Rattle.std.specs.Prelude.{false, ◌≡◌, ◌^◌, ◌≤◌, length};
 ghost use Rattle.csr_words.specs.Setting.{setting_of};
 ghost use Rattle.step_hart.specs.Hart.{hart};
-ghost use Rattle.step_hart.specs.Step.{step_from};
+ghost use Rattle.step_hart.specs.Step.{step_from, trap_told};
 
 use super::apply;
 use super::apply::Done;
@@ -27,8 +27,8 @@ pub fn one(
         map.now).hart.words }
     ensures memory { mem.new ≡ (step_from source (hart x.old w.old) mem.old
         map.now).memory }
-    ensures told { (result.trapped ≡ (step_from source (hart x.old w.old) mem.old map.now).trapped)
-        × (result.cause ≡ (step_from source (hart x.old w.old) mem.old map.now).cause) }
+    ensures told { result.trap ≡ trap_told (step_from source (hart x.old w.old) mem.old map.now).trapped
+        (step_from source (hart x.old w.old) mem.old map.now).cause }
     ensures setting { result.switched ≡ false → setting_of w.new ≡ setting_of w.old }
 {
     let e = plan::plan(source, x, w[PC], w[ELP] == 1, w[SSP], s, mem, map);

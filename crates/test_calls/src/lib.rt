@@ -61,7 +61,12 @@ pub struct Compared {
 
 fn shown(a: Answer) -> [u64; ANSWER] {
     let mut numbers = [0u64; ANSWER];
-    numbers[..HART].copy_from_slice(&[a.refusal, a.count, u64::from(a.trapped), a.cause]);
+    numbers[..HART].copy_from_slice(&[
+        a.refusal.map_or(0, |refusal| refusal.number()),
+        a.count,
+        u64::from(a.trap.is_some()),
+        a.trap.unwrap_or(0),
+    ]);
     numbers[HART..].copy_from_slice(&state::numbers(a.hart));
     numbers
 }

@@ -87,12 +87,12 @@ impl Lap {
             let a = run_machine::run(hart, mem, self.map, BUDGET);
             hart = a.hart;
             steps = steps.wrapping_add(a.count);
-            if a.trapped {
+            if a.trap.is_some() {
                 return End {
                     hart,
                     runs,
                     steps,
-                    trap: Some(a.cause),
+                    trap: a.trap,
                     memory: doubles(mem, self.shown),
                 };
             }

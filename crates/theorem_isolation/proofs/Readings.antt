@@ -19,6 +19,7 @@ use Rattle.address.specs.declared.control.Control.{Control}
 use Rattle.address_place.specs.Place.{frame_of}
 use Rattle.step_hart.specs.declared.Hart.{Hart}
 use Rattle.run_call.specs.Call.{Called, run_call_of}
+use Rattle.std.specs.Option.{is_some}
 use Rattle.run_call.specs.declared.Answer.{Answer}
 use Rattle.theorem_origin.specs.Force.{in_force, leaf_at}
 use Rattle.theorem_isolation.specs.Unseen.{Taken, Named, Seen, Alike, Keeps, run, call_followed, session_of, IsolationStarts}
@@ -50,7 +51,7 @@ alone : (budget : ℕ) (h : Hart) (m map : List ℕ)
     → ((session_of (run budget ∷ []) h m map).answers ≡ (run_call_of budget h m map).answer ∷ [])
     × ((session_of (run budget ∷ []) h m map).memory ≡ (run_call_of budget h m map).memory)
 unfolding session_of
-alone budget h m map = go (run_call_of budget h m map).answer.trapped (run_call_of budget h m map)
+alone budget h m map = go (is_some (run_call_of budget h m map).answer.trap) (run_call_of budget h m map)
   where
     go : (t : Bool) (c : Called)
         → ((call_followed t c (record { answers = []; memory = c.memory })).answers ≡ c.answer ∷ [])

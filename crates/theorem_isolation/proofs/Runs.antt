@@ -2,10 +2,10 @@
 -- Assumes nothing.
 use mathlib.Core.Bool.{Bool, true, false}
 use mathlib.Core.List.{List, [], ◌∷◌}
-use mathlib.Core.Path.{◌≡◌, refl, ap, ap₂}
+use mathlib.Core.Path.{◌≡◌, refl, sym, ap, ap₂, ◌∙◌}
 use Prim.Native.Nat.{ℕ, zero, suc, ◌+◌}
-use lib.Dec.{eqb}
-use Rattle.word.specs.Choice.{pick}
+use Rattle.std.specs.Prelude.{Option, Some, None}
+use Rattle.std.specs.Option.{is_some}
 use Rattle.step_effect.specs.declared.Effect.{Effect}
 use Rattle.step_meaning.specs.declared.Source.{Source}
 use Rattle.step_meaning.specs.declared.Source.TheVariants.{Fetch, Given}
@@ -14,8 +14,10 @@ use Rattle.step_hart.specs.Run as run
 use Rattle.step_hart.specs.Run.{Run, once, run_from}
 use Rattle.step_hart.specs.Step.{apply_of, traps_of, outcome_of, plan_of, step_from}
 use Rattle.step_hart.specs.declared.Hart.{Hart}
-use Rattle.run_call.specs.Call.{Called, refusal_of, run_refusal_of, refused_with, taken_with, step_from_call, run_call_of}
+use Rattle.run_call.specs.Call.{Called, refusal_of, run_refusal_of, taken_with, called_of, step_from_call, run_call_of}
 use Rattle.run_call.specs.declared.Answer.{Answer}
+use Rattle.run_call.specs.declared.Refusal.{Refusal}
+use Rattle.step_hart.proofs.Turns.{told_trapped}
 use Rattle.theorem_isolation.specs.Unseen.{Alike, Keeps, Call, step, step_given_word, call_of, Session, call_followed, session_of}
 use Rattle.theorem_isolation.specs.Unseen as unseen
 use Rattle.theorem_isolation.proofs.Bytes.{keeps_all, keeps_on}
@@ -39,7 +41,7 @@ module _ (Of To : (o : ℕ) → Type 0) (map : List ℕ) where
   further false e h m n r s t L c f =
       let R = f t in
       record {
-        told = ap (λ (x : Answer). record { refusal = 0; hart = x.hart; count = 1 + x.count; trapped = x.trapped; cause = x.cause }) R.told;
+        told = ap (λ (x : Answer). record { refusal = None; hart = x.hart; count = 1 + x.count; trap = x.trap }) R.told;
         confined = R.confined;
         alike = R.alike;
         own = keeps_on To m (memory_of e m) r.memory L.own R.own;
@@ -61,19 +63,24 @@ module _ (Of To : (o : ℕ) → Type 0) (map : List ℕ) where
   -- two calls
   pub record Calls (m n : List ℕ) (c d : Called) : Type 0 where
     pub answer : c.answer ≡ d.answer
-    pub confined : c.answer.trapped ≡ false → Confined Of To map c.answer.hart
+    pub confined : is_some c.answer.trap ≡ false → Confined Of To map c.answer.hart
     pub alike : Alike Of c.memory d.memory
     pub own : Keeps To m c.memory
     pub own' : Keeps To n d.memory
 
   module _ (h : Hart) (m n : List ℕ) (C : Confined Of To map h) (A : Alike Of m n) where
     taken : (r s : Run) → Runs m n r s → Calls m n (taken_with r) (taken_with s)
-    taken r s R = record { answer = R.told; confined = R.confined; alike = R.alike; own = R.own; own' = R.own' }
+    taken r s R = record {
+      answer = R.told;
+      confined = λ t. R.confined (sym (told_trapped r.trapped r.cause) ∙ t);
+      alike = R.alike;
+      own = R.own;
+      own' = R.own';
+    }
 
-    called : (t : Bool) (k : ℕ) (r s : Run) → Runs m n r s
-        → Calls m n (pick t (taken_with r) (refused_with k h m)) (pick t (taken_with s) (refused_with k h n))
-    called true k r s R = taken r s R
-    called false k r s R =
+    called : (refusal : Option Refusal) (r s : Run) → Runs m n r s → Calls m n (called_of refusal h m r) (called_of refusal h n s)
+    called None r s R = taken r s R
+    called (Some k) r s R =
         record { answer = refl; confined = λ t. C; alike = A; own = keeps_all To m; own' = keeps_all To n }
 
     -- refusals ask the hart, memory's length and the map alone
@@ -95,13 +102,13 @@ module _ (Of To : (o : ℕ) → Type 0) (map : List ℕ) where
 
     step_calls : (source : Source) → Calls m n (step_from_call source h m map) (step_from_call source h n map)
     unfolding step_from_call
-    step_calls source = rw (← refusal_same) (called (eqb (refusal_of h m map) 0) (refusal_of h m map) _ _ (one_step source))
+    step_calls source = rw (← refusal_same) (called (refusal_of h m map) _ _ (one_step source))
 
     run_calls : (budget : ℕ) → Calls m n (run_call_of budget h m map) (run_call_of budget h n map)
     unfolding run_call_of
     run_calls budget =
         rw (← run_refusal_same budget)
-        (called (eqb (run_refusal_of budget h m map) 0) (run_refusal_of budget h m map) _ _ (runs budget Fetch h m n C A))
+        (called (run_refusal_of budget h m map) _ _ (runs budget Fetch h m n C A))
 
     pub calls : (c : Call) → Calls m n (call_of c h m map) (call_of c h n map)
     calls step = step_calls Fetch
@@ -115,8 +122,8 @@ module _ (Of To : (o : ℕ) → Type 0) (map : List ℕ) where
     pub own : Keeps To m c.memory
     pub own' : Keeps To n d.memory
 
-  going_on : (t : Bool) (m n : List ℕ) (c d : Called) (r s : Session) → c.answer.trapped ≡ t → Calls m n c d
-      → (c.answer.trapped ≡ false → Sessions c.memory d.memory r s) → Sessions m n (call_followed t c r) (call_followed t d s)
+  going_on : (t : Bool) (m n : List ℕ) (c d : Called) (r s : Session) → is_some c.answer.trap ≡ t → Calls m n c d
+      → (is_some c.answer.trap ≡ false → Sessions c.memory d.memory r s) → Sessions m n (call_followed t c r) (call_followed t d s)
   going_on true m n c d r s e K f =
       record { answers = ap (λ (a : Answer). a ∷ []) K.answer; alike = K.alike; own = K.own; own' = K.own' }
   going_on false m n c d r s e K f =
@@ -135,5 +142,5 @@ module _ (Of To : (o : ℕ) → Type 0) (map : List ℕ) where
   sessions (c ∷ cs) h m n C A =
       let K = calls h m n C A c in
       rw (← K.answer)
-      (going_on (call_of c h m map).answer.trapped m n (call_of c h m map) (call_of c h n map) _ _ refl K
+      (going_on (is_some (call_of c h m map).answer.trap) m n (call_of c h m map) (call_of c h n map) _ _ refl K
       (λ t. sessions cs (call_of c h m map).answer.hart (call_of c h m map).memory (call_of c h n map).memory (K.confined t) K.alike))

@@ -1,7 +1,6 @@
 -- Each hypothesis of the theorem earns its place: a start that meets the others and not this one, and a call after which a register of the one
 -- hart holds what the other's does not. The word is ld x6, 0(x3).
 -- Assumes nothing.
-use mathlib.Core.Bool.{true}
 use mathlib.Core.List.{List, [], ◌∷◌}
 use mathlib.Core.Path.{◌≡◌, refl, sym, ap, ◌∙◌}
 use Prim.Native.Nat.{ℕ, ◌+◌, ◌/◌, ◌^◌}
@@ -34,6 +33,7 @@ use Rattle.step_hart.specs.Hart.{hart, legal}
 use Rattle.step_hart.specs.Step.{step_from}
 use Rattle.step_hart.specs.declared.Hart.{Hart}
 use Rattle.run_call.specs.Call.{refusal_of, step_from_call, step_word_call}
+use Rattle.std.specs.Prelude.{Some, None}
 use Rattle.run_call.specs.declared.Answer.{Answer}
 use Rattle.theorem_origin.specs.Force.{in_force}
 use Rattle.theorem_isolation.specs.Unseen.{Taken, Seen, Alike, Call, step_given_word, session_of, IsolationStarts, Unseen}
@@ -107,9 +107,9 @@ record Computed : Type 0 where
   bare_one : sixth (session_of look bare (memory_with 0xAA) map₀).answers ≡ 0xAA
   bare_other : sixth (session_of look bare (memory_with 0xBB) map₀).answers ≡ 0xBB
   trap_one : (step_word_call ecall aimed (memory_with 0xAA) map₀).answer
-      ≡ record { refusal = 0; hart = trapped; count = 1; trapped = true; cause = 8 }
+      ≡ record { refusal = None; hart = trapped; count = 1; trap = Some 8 }
   trap_other : (step_word_call ecall aimed (memory_with 0xBB) map₀).answer
-      ≡ record { refusal = 0; hart = trapped; count = 1; trapped = true; cause = 8 }
+      ≡ record { refusal = None; hart = trapped; count = 1; trap = Some 8 }
   past_one : sixth (session_of look trapped (memory_with 0xAA) map₀).answers ≡ 0xAA
   past_other : sixth (session_of look trapped (memory_with 0xBB) map₀).answers ≡ 0xBB
   touched_long : length (memory_with 0xAA) ≡ length touched
@@ -159,8 +159,8 @@ needs_sv39 = (
 -- it leaves breaks it
 pub needs_stop :
     IsolationStarts Taken map₀ aimed (memory_with 0xAA) (memory_with 0xBB)
-    × ((step_word_call ecall aimed (memory_with 0xAA) map₀).answer ≡ record { refusal = 0; hart = trapped; count = 1; trapped = true; cause = 8 })
-    × ((step_word_call ecall aimed (memory_with 0xBB) map₀).answer ≡ record { refusal = 0; hart = trapped; count = 1; trapped = true; cause = 8 })
+    × ((step_word_call ecall aimed (memory_with 0xAA) map₀).answer ≡ record { refusal = None; hart = trapped; count = 1; trap = Some 8 })
+    × ((step_word_call ecall aimed (memory_with 0xBB) map₀).answer ≡ record { refusal = None; hart = trapped; count = 1; trap = Some 8 })
     × Breaks trapped
 needs_stop = (
   together aimed refl refl (alike₀ (in_force aimed)),

@@ -42,6 +42,7 @@ use Rattle.step_hart.specs.Run.{Run, after, stayed, once, run_from, run_of}
 use Rattle.step_hart.specs.Step.{outcome_of, plan_of, step_from}
 use Rattle.step_hart.specs.declared.Hart.{Hart}
 use Rattle.run_call.specs.Call.{refusal_of, run_refusal_of, taken_with, run_call_of}
+use Rattle.std.specs.Prelude.{Some, None}
 use Rattle.run_call.specs.declared.Answer.{Answer}
 use Rattle.theorem_origin.specs.Force.{in_force, leaf_at, Entry}
 use Rattle.step_hart.proofs.Longer.{run_longer}
@@ -176,7 +177,7 @@ stored secret = store_of (memory_with secret) 0x1008 8 0x1111
 -- what each step does, computed in the one memory; and what an access through an odd page does: outside memory it is an access fault;
 -- without U, or without a right, a page fault, whatever else names the frame
 pub record Computed : Type 0 where
-  pub accepted : refusal_of hart₀ (memory_with 0xAA) map₀ ≡ 0
+  pub accepted : refusal_of hart₀ (memory_with 0xAA) map₀ ≡ None
   pub first : plan_of Fetch hart₀ (memory_with 0xAA) map₀ ≡ Write 5 0x1111 4
   pub second : plan_of Fetch hart₁ (memory_with 0xAA) map₀ ≡ Store (record { 0 = 0x80001008 }) Double 0x1111 8
   pub third : plan_of Fetch hart₂ (stored 0xAA) map₀ ≡ Trap 13 0x2000
@@ -221,7 +222,7 @@ called = rw computed.accepted (ap taken_with ran₃)
 
 -- its answer
 abbrev pub answer₃ : Answer
-answer₃ = record { refusal = 0; hart = hart₃; count = 3; trapped = true; cause = 13 }
+answer₃ = record { refusal = None; hart = hart₃; count = 3; trap = Some 13 }
 
 pub one_answer : (session_of (run 3 ∷ []) hart₀ (memory_with 0xAA) map₀).answers ≡ answer₃ ∷ []
 unfolding session_of

@@ -11,6 +11,7 @@
 -- Below, h is the hart, m and n the two memories, map the page map. A call is one of `run_machine`'s, by the definition that it is proved
 -- to meet. No call need be taken: a refused one answers alike too.
 use Rattle.std.specs.Prelude.{Bool, true, false, List, [], ◌∷◌, ◌≡◌, ℕ, ◌+◌, ◌/◌, ◌^◌, get_or, length}
+use Rattle.std.specs.Option.{is_some}
 use Rattle.address_leaf.specs.Leaf.{leaf_of}
 use Rattle.address_place.specs.Place.{base, frame_of}
 use Rattle.address.specs.declared.control.Control.{Control}
@@ -62,7 +63,7 @@ call_of step h m map = step_call_of h m map
 call_of (step_given_word word) h m map = step_word_call word h m map
 call_of (run budget) h m map = run_call_of budget h m map
 
--- what a row of calls leaves: all their answers, each with its hart, count, refusal, trap and cause, and memory
+-- what a row of calls leaves: all their answers, each with its hart, count, refusal and trap, and memory
 pub record Session : Type 0 where
   pub answers : List Answer
   pub memory : List ℕ
@@ -77,7 +78,7 @@ call_followed false c rest = record { answers = c.answer ∷ rest.answers; memor
 unfoldable pub session_of : List Call → Hart → (m map : List ℕ) → Session
 session_of [] h m map = record { answers = []; memory = m }
 session_of (c ∷ cs) h m map =
-    call_followed (call_of c h m map).answer.trapped (call_of c h m map)
+    call_followed (is_some (call_of c h m map).answer.trap) (call_of c h m map)
     (session_of cs (call_of c h m map).answer.hart (call_of c h m map).memory map)
 
 module _ (Valid : Control → (e : ℕ) → Type 0) (map : List ℕ) (h : Hart) (m n : List ℕ) where

@@ -15,6 +15,9 @@ use Rattle.step_meaning.specs.declared.Source.{Source}
 use Rattle.step_meaning.specs.declared.Source.TheVariants.{Fetch}
 use Rattle.step_hart.proofs.Compose.{onward}
 use Rattle.step_hart.proofs.Longer.{run_longer}
+use Rattle.step_hart.proofs.Turns.{told_trapped}
+use Rattle.std.specs.Prelude.{None}
+use Rattle.std.specs.Option.{is_some}
 use Rattle.step_hart.specs.Run.{Run, once, run_from, run_of}
 use Rattle.step_hart.specs.Step.{plan_of, step_from}
 use Rattle.step_hart.specs.declared.Hart.{Hart}
@@ -59,7 +62,7 @@ module _ (map : List ℕ) (h₀ : Hart) (m₀ : List ℕ) where
   Reaches es r = Stretch map h₀ m₀ es r.hart r.memory r.trapped
 
   abbrev pub Leaves : List Event → Called → Type 0
-  Leaves es c = Stretch map h₀ m₀ es c.answer.hart c.memory c.answer.trapped
+  Leaves es c = Stretch map h₀ m₀ es c.answer.hart c.memory (is_some c.answer.trap)
 
   -- one step more of a run that has not trapped; one that has is at its end
   one_more : (new es : List Event) (r : Run) (t : Bool) → r.trapped ≡ t → Reaches (new ++ es) r
@@ -88,31 +91,31 @@ module _ (map : List ℕ) (h₀ : Hart) (m₀ : List ℕ) where
         (one_more (run_events n h m map) es r r.trapped refl w (calm n (omega arith)))
 
     -- and so does the call `run`, where it is taken
-    pub run_call : (budget : ℕ) → run_refusal_of budget h m map ≡ 0 → Undisturbed budget h m map
+    pub run_call : (budget : ℕ) → run_refusal_of budget h m map ≡ None → Undisturbed budget h m map
         → Leaves (run_events budget h m map ++ es) (run_call_of budget h m map)
     unfolding run_call_of
-    run_call budget e calm = rw e (run_goes_on budget calm)
+    run_call budget e calm = rw (e, told_trapped (run_of budget h m map).trapped (run_of budget h m map).cause) (run_goes_on budget calm)
 
     -- a call `step` or `step_word` that is taken is its next step
-    pub step_call : (source : Source) → refusal_of h m map ≡ 0 → NoSwap (plan_of source h m map) → NoPointerWrite (plan_of source h m map)
+    pub step_call : (source : Source) → refusal_of h m map ≡ None → NoSwap (plan_of source h m map) → NoPointerWrite (plan_of source h m map)
         → Leaves (event_of (plan_of source h m map) ∷ es) (step_from_call source h m map)
     unfolding step_from_call
-    step_call source e ns np = rw e (step s source ns np)
+    step_call source e ns np = rw (e, told_trapped (step_from source h m map).trapped (step_from source h m map).cause) (step s source ns np)
 
   -- and at the end of a stretch from an accepted state the calls are taken: refusals 1 to 3 do not apply
-  pub stretch_accepted : refusal_of h₀ m₀ map ≡ 0 → {es : List Event} {h : Hart} {m : List ℕ} {trapped : Bool}
-      → Stretch map h₀ m₀ es h m trapped → refusal_of h m map ≡ 0
+  pub stretch_accepted : refusal_of h₀ m₀ map ≡ None → {es : List Event} {h : Hart} {m : List ℕ} {trapped : Bool}
+      → Stretch map h₀ m₀ es h m trapped → refusal_of h m map ≡ None
   stretch_accepted e start = e
   stretch_accepted e (step {es} {h} {m} r source ns np) = step_accepted source h m map (stretch_accepted e r)
 
-  not_over : (budget : ℕ) → refusal_of h₀ m₀ map ≡ 0 → budget ≤ 1000000 → run_refusal_of budget h₀ m₀ map ≡ 0
+  not_over : (budget : ℕ) → refusal_of h₀ m₀ map ≡ None → budget ≤ 1000000 → run_refusal_of budget h₀ m₀ map ≡ None
   unfolding run_refusal_of
   not_over budget e l = rw (e, le-ltb 1000000 budget l)
 
   -- the promise of a call `run`, of what it leaves
   pub run_keeps : (budget : ℕ) → ShadowStarts map h₀ m₀ → budget ≤ 1000000 → Undisturbed budget h₀ m₀ map
       → Promise map h₀ m₀ (run_events budget h₀ m₀ map)
-      (run_call_of budget h₀ m₀ map).answer.hart (run_call_of budget h₀ m₀ map).memory (run_call_of budget h₀ m₀ map).answer.trapped
+      (run_call_of budget h₀ m₀ map).answer.hart (run_call_of budget h₀ m₀ map).memory (is_some (run_call_of budget h₀ m₀ map).answer.trap)
   run_keeps budget S l calm =
       let s : Leaves (run_events budget h₀ m₀ map) (run_call_of budget h₀ m₀ map) =
       rw append-nil at (run_call [] h₀ m₀ start budget (not_over budget S.accepted l) calm) in

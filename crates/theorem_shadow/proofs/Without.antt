@@ -44,6 +44,7 @@ use Rattle.step_effect.specs.Register.{put_of}
 use Rattle.step_hart.specs.Hart.{hart, legal}
 use Rattle.step_hart.specs.Step.{Outcome, csr_of, privileged_of, plan_of, step_from}
 use Rattle.step_hart.specs.declared.Hart.{Hart}
+use Rattle.std.specs.Prelude.{None}
 use Rattle.run_call.specs.Call.{refusal_of}
 use Rattle.theorem_origin.specs.Force.{in_force}
 use Rattle.theorem_shadow.specs.Promise.{StandsOnce, ShadowStarts, quiet, NoSwap, NoPointerWrite, Stretch, start, pushes, pops, Shadow, latest, PopCheck}
@@ -52,7 +53,7 @@ use Rattle.theorem_shadow.proofs.Witness.{memory₀, map₀, hart₀, once₀, n
 
 -- the hypotheses on the start, one by one
 abbrev pub Accepted : (map : List ℕ) → Hart → Type 0
-Accepted map h = refusal_of h memory₀ map ≡ 0
+Accepted map h = refusal_of h memory₀ map ≡ None
 
 abbrev pub InUser : Hart → Type 0
 InUser h = MODE of h.words ≡ 0

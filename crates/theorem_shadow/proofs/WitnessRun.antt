@@ -5,6 +5,7 @@ use mathlib.Core.Bool.{true, false}
 use mathlib.Core.Path.{◌≡◌, refl, ap, ◌∙◌}
 use Prim.Native.Nat.{ℕ, zero, suc}
 use native.Mathlib.Omega.{arith}
+use Rattle.std.specs.Option.{is_some}
 use Rattle.step_effect.specs.declared.Effect.{Effect}
 use Rattle.step_meaning.specs.declared.Source.TheVariants.{Fetch}
 use Rattle.step_hart.proofs.Longer.{run_longer}
@@ -74,5 +75,5 @@ undisturbed (suc (suc (suc (suc (suc (suc (suc k))))))) l t = absurd (omega arit
 
 -- so the promise holds of what the call leaves
 pub kept : Promise map₀ hart₀ memory₀ (run_events 7 hart₀ memory₀ map₀)
-    (run_call_of 7 hart₀ memory₀ map₀).answer.hart (run_call_of 7 hart₀ memory₀ map₀).memory (run_call_of 7 hart₀ memory₀ map₀).answer.trapped
+    (run_call_of 7 hart₀ memory₀ map₀).answer.hart (run_call_of 7 hart₀ memory₀ map₀).memory (is_some (run_call_of 7 hart₀ memory₀ map₀).answer.trap)
 kept = run_keeps map₀ hart₀ memory₀ 7 starts (omega arith) undisturbed

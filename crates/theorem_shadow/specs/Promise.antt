@@ -13,8 +13,7 @@
 --
 -- Below, h is the hart, m memory, map the page map; h₀ and m₀ are those that the stretch starts from. A step is `step_from`, which the
 -- calls `step`, `step_word` and `run` are proved to make, and its effect is `plan_of`.
-use Rattle.std.specs.Prelude.{Ok}
-use Rattle.std.specs.Prelude.{Bool, true, false, ◌&&◌, not, List, [], ◌∷◌, ◌↔◌, ◌≡◌, ℕ, suc, ◌+◌, ◌-◌, ◌*◌, ◌/◌, ◌%◌, ◌^◌, leb, ltb, get_or, drop, length}
+use Rattle.std.specs.Prelude.{Ok, None, Bool, true, false, ◌&&◌, not, List, [], ◌∷◌, ◌↔◌, ◌≡◌, ℕ, suc, ◌+◌, ◌-◌, ◌*◌, ◌/◌, ◌%◌, ◌^◌, leb, ltb, get_or, drop, length}
 use Rattle.word.specs.Choice.{pick}
 use Rattle.decode.specs.Decode.{decode_of}
 use Rattle.isa.specs.declared.Access.TheVariants as access
@@ -57,7 +56,7 @@ StandsOnce c map =
 
 -- "Start in user mode with Sv39 and both shadow-stack enables on", from a state that refusals 1 to 3 do not apply to
 pub record ShadowStarts (map : List ℕ) (h₀ : Hart) (m₀ : List ℕ) : Type 0 where
-  pub accepted : refusal_of h₀ m₀ map ≡ 0
+  pub accepted : refusal_of h₀ m₀ map ≡ None
   pub user : MODE of h₀.words ≡ 0
   pub sv39 : SATP of h₀.words / 2 ^ 60 ≡ 8
   pub menvcfg : sse_of (MENVCFG of h₀.words) ≡ true

@@ -1,24 +1,23 @@
 -- `run_machine::stepped` meets its contract: where no refusal applies, the hart's step. Assumes nothing.
-use borrow.Author.Tests.{ne_eqb}
 use mathlib.Core.Path.{refl, sym, ◌∙◌}
 use Rattle.run_call.specs.Call.{step_from_call}
 use Rattle.run_call.proofs.Accepted.{small}
 use Rattle.run_machine.proofs.stepped.Goals as goal
 
-pub step-r-requires : goal.step-r-requires
-step-r-requires c = small _ _ _ (sym c.refusal-n.ensures ∙ c.if-n-eq0.true)
-
-pub returns-then-n-eq0 : goal.returns-then-n-eq0
+pub returns-in-Some : goal.returns-in-Some
 unfolding step_from_call
-returns-then-n-eq0 c =
-    rw (sym c.refusal-n.ensures ∙ c.if-n-eq0.true, c.step-r.ensures.answer) record {
-      answer = refl;
-      memory = c.step-r.ensures.memory;
-    }
-
-pub returns : goal.returns
-unfolding step_from_call
-returns c = rw (c.refused.ensures, ← c.refusal-n.ensures, ne_eqb _ _ c.if-n-eq0.false) record {
+returns-in-Some c = rw (c.refused.ensures, sym c.step_refusal.ensures ∙ c.in-Some.is) record {
   answer = refl;
   memory = refl;
 }
+
+pub step-after-requires : goal.step-after-requires
+step-after-requires c = small _ _ _ (sym c.step_refusal.ensures ∙ c.in_default.is)
+
+pub returns : goal.returns
+unfolding step_from_call
+returns c =
+    rw (sym c.step_refusal.ensures ∙ c.in_default.is, c.step-after.ensures.answer) record {
+      answer = refl;
+      memory = c.step-after.ensures.memory;
+    }

@@ -2,50 +2,48 @@
 use Rattle.word.proofs.Tables.{missed}
 use Rattle.decode_base.specs.Base.{op_of, ops, extension_of}
 use Rattle.step_meaning.specs.Instruction.{execute_of}
-use Rattle.run_value.proofs.Rows.{row_told, next_told}
+use Rattle.run_value.proofs.Rows.{next_told}
 use Rattle.run_value.proofs.op.Goals as goal
 
 pub returns-in-0 : goal.returns-in-0
 unfolding op_of execute_of
-returns-in-0 c = row_told _ _ c.told.ensures _ _ _ _ (λ w pc ssp x s m map p q. rw (c.in-0.is, p, q, c.sum.ensures))
+returns-in-0 c = λ w pc ssp x s m map p q. rw (c.in-0.is, p, q, c.sum.ensures)
 
 pub returns-in-256 : goal.returns-in-256
 unfolding op_of execute_of
-returns-in-256 c = row_told _ _ c.told-in-256.ensures _ _ _ _ (λ _ _ _ _ _ _ _ p q. rw (c.in-256.is, p, q, c.difference.ensures))
+returns-in-256 c = λ _ _ _ _ _ _ _ p q. rw (c.in-256.is, p, q, c.difference.ensures)
 
 pub returns-in-1 : goal.returns-in-1
 unfolding op_of execute_of
-returns-in-1 c = row_told _ _ c.told-in-1.ensures _ _ _ _ (λ w pc ssp x s m map p q. rw (c.in-1.is, p, q, c.left.ensures))
+returns-in-1 c = λ w pc ssp x s m map p q. rw (c.in-1.is, p, q, c.left.ensures)
 
 pub returns-in-2 : goal.returns-in-2
 unfolding op_of execute_of
-returns-in-2 c = row_told _ _ c.told-in-2.ensures _ _ _ _ (λ _ _ _ _ _ _ _ p q. rw
-    (c.in-2.is, p, q, c.one.ensures, c.signed_less.ensures))
+returns-in-2 c = λ _ _ _ _ _ _ _ p q. rw (c.in-2.is, p, q, c.one.ensures, c.signed_less.ensures)
 
 pub returns-in-3 : goal.returns-in-3
 unfolding op_of execute_of
-returns-in-3 c = row_told _ _ c.told-in-3.ensures _ _ _ _ (λ _ _ _ _ _ _ _ p q. rw
-    (c.in-3.is, p, q, c.one-in-3.ensures, c.unsigned_less.ensures))
+returns-in-3 c = λ _ _ _ _ _ _ _ p q. rw (c.in-3.is, p, q, c.one-in-3.ensures, c.unsigned_less.ensures)
 
 pub returns-in-4 : goal.returns-in-4
 unfolding op_of execute_of
-returns-in-4 c = row_told _ _ c.told-in-4.ensures _ _ _ _ (λ w pc ssp x s m map p q. rw (c.in-4.is, p, q, c.xor.ensures))
+returns-in-4 c = λ w pc ssp x s m map p q. rw (c.in-4.is, p, q, c.xor.ensures)
 
 pub returns-in-5 : goal.returns-in-5
 unfolding op_of execute_of
-returns-in-5 c = row_told _ _ c.told-in-5.ensures _ _ _ _ (λ w pc ssp x s m map p q. rw (c.in-5.is, p, q, c.right.ensures))
+returns-in-5 c = λ w pc ssp x s m map p q. rw (c.in-5.is, p, q, c.right.ensures)
 
 pub returns-in-261 : goal.returns-in-261
 unfolding op_of execute_of
-returns-in-261 c = row_told _ _ c.told-in-261.ensures _ _ _ _ (λ _ _ _ _ _ _ _ p q. rw (c.in-261.is, p, q, c.arithmetic.ensures))
+returns-in-261 c = λ _ _ _ _ _ _ _ p q. rw (c.in-261.is, p, q, c.arithmetic.ensures)
 
 pub returns-in-6 : goal.returns-in-6
 unfolding op_of execute_of
-returns-in-6 c = row_told _ _ c.told-in-6.ensures _ _ _ _ (λ w pc ssp x s m map p q. rw (c.in-6.is, p, q, c.or.ensures))
+returns-in-6 c = λ w pc ssp x s m map p q. rw (c.in-6.is, p, q, c.or.ensures)
 
 pub returns-in-7 : goal.returns-in-7
 unfolding op_of execute_of
-returns-in-7 c = row_told _ _ c.told-in-7.ensures _ _ _ _ (λ w pc ssp x s m map p q. rw (c.in-7.is, p, q, c.and.ensures))
+returns-in-7 c = λ w pc ssp x s m map p q. rw (c.in-7.is, p, q, c.and.ensures)
 
 pub returns-in_default : goal.returns-in_default
 unfolding op_of

@@ -2,30 +2,28 @@
 use Rattle.word.proofs.Tables.{missed}
 use Rattle.decode_base.specs.Base.{op32_of, op32s, extension32_of}
 use Rattle.step_meaning.specs.Instruction.{execute_of}
-use Rattle.run_value.proofs.Rows.{row_told, next_told}
+use Rattle.run_value.proofs.Rows.{next_told}
 use Rattle.run_value.proofs.op_32.Goals as goal
 
 pub returns-in-0 : goal.returns-in-0
 unfolding op32_of execute_of
-returns-in-0 c = row_told _ _ c.told.ensures _ _ _ _ (λ _ _ _ _ _ _ _ p q. rw (c.in-0.is, p, q, c.sum_word.ensures))
+returns-in-0 c = λ _ _ _ _ _ _ _ p q. rw (c.in-0.is, p, q, c.sum_word.ensures)
 
 pub returns-in-256 : goal.returns-in-256
 unfolding op32_of execute_of
-returns-in-256 c = row_told _ _ c.told-in-256.ensures _ _ _ _
-    (λ _ _ _ _ _ _ _ p q. rw (c.in-256.is, p, q, c.difference_word.ensures))
+returns-in-256 c = λ _ _ _ _ _ _ _ p q. rw (c.in-256.is, p, q, c.difference_word.ensures)
 
 pub returns-in-1 : goal.returns-in-1
 unfolding op32_of execute_of
-returns-in-1 c = row_told _ _ c.told-in-1.ensures _ _ _ _ (λ _ _ _ _ _ _ _ p q. rw (c.in-1.is, p, q, c.left.ensures))
+returns-in-1 c = λ _ _ _ _ _ _ _ p q. rw (c.in-1.is, p, q, c.left.ensures)
 
 pub returns-in-5 : goal.returns-in-5
 unfolding op32_of execute_of
-returns-in-5 c = row_told _ _ c.told-in-5.ensures _ _ _ _ (λ _ _ _ _ _ _ _ p q. rw (c.in-5.is, p, q, c.right.ensures))
+returns-in-5 c = λ _ _ _ _ _ _ _ p q. rw (c.in-5.is, p, q, c.right.ensures)
 
 pub returns-in-261 : goal.returns-in-261
 unfolding op32_of execute_of
-returns-in-261 c = row_told _ _ c.told-in-261.ensures _ _ _ _
-    (λ _ _ _ _ _ _ _ p q. rw (c.in-261.is, p, q, c.arithmetic.ensures))
+returns-in-261 c = λ _ _ _ _ _ _ _ p q. rw (c.in-261.is, p, q, c.arithmetic.ensures)
 
 pub returns-in_default : goal.returns-in_default
 unfolding op32_of

@@ -2,20 +2,20 @@
 use Rattle.word.proofs.Tables.{missed}
 use Rattle.decode_base.specs.Base.{shift_of, shifts, count_of}
 use Rattle.step_meaning.specs.Instruction.{execute_of}
-use Rattle.run_value.proofs.Rows.{row_told, next_told}
+use Rattle.run_value.proofs.Rows.{next_told}
 use Rattle.run_value.proofs.shifts.Goals as goal
 
 pub returns-in-1 : goal.returns-in-1
 unfolding shift_of execute_of
-returns-in-1 c b = row_told _ _ c.told.ensures _ _ _ _ (λ w pc ssp x s m map p q. rw (c.in-1.is, p, c.left.ensures))
+returns-in-1 c b = λ w pc ssp x s m map p q. rw (c.in-1.is, p, c.left.ensures)
 
 pub returns-in-5 : goal.returns-in-5
 unfolding shift_of execute_of
-returns-in-5 c b = row_told _ _ c.told-in-5.ensures _ _ _ _ (λ w pc ssp x s m map p q. rw (c.in-5.is, p, c.right.ensures))
+returns-in-5 c b = λ w pc ssp x s m map p q. rw (c.in-5.is, p, c.right.ensures)
 
 pub returns-in-133 : goal.returns-in-133
 unfolding shift_of execute_of
-returns-in-133 c b = row_told _ _ c.told-in-133.ensures _ _ _ _ (λ _ _ _ _ _ _ _ p q. rw (c.in-133.is, p, c.arithmetic.ensures))
+returns-in-133 c b = λ _ _ _ _ _ _ _ p q. rw (c.in-133.is, p, c.arithmetic.ensures)
 
 pub returns-in_default : goal.returns-in_default
 unfolding shift_of

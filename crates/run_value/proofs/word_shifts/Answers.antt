@@ -2,21 +2,20 @@
 use Rattle.word.proofs.Tables.{missed}
 use Rattle.decode_base.specs.Base.{word_shift_of, word_shifts_of, count_word_of}
 use Rattle.step_meaning.specs.Instruction.{execute_of}
-use Rattle.run_value.proofs.Rows.{row_told, next_told}
+use Rattle.run_value.proofs.Rows.{next_told}
 use Rattle.run_value.proofs.word_shifts.Goals as goal
 
 pub returns-in-1 : goal.returns-in-1
 unfolding word_shift_of execute_of
-returns-in-1 c b = row_told _ _ c.told.ensures _ _ _ _ (λ _ _ _ _ _ _ _ p q. rw (c.in-1.is, p, c.left.ensures))
+returns-in-1 c b = λ _ _ _ _ _ _ _ p q. rw (c.in-1.is, p, c.left.ensures)
 
 pub returns-in-5 : goal.returns-in-5
 unfolding word_shift_of execute_of
-returns-in-5 c b = row_told _ _ c.told-in-5.ensures _ _ _ _ (λ _ _ _ _ _ _ _ p q. rw (c.in-5.is, p, c.right.ensures))
+returns-in-5 c b = λ _ _ _ _ _ _ _ p q. rw (c.in-5.is, p, c.right.ensures)
 
 pub returns-in-261 : goal.returns-in-261
 unfolding word_shift_of execute_of
-returns-in-261 c b = row_told _ _ c.told-in-261.ensures _ _ _ _
-    (λ _ _ _ _ _ _ _ p q. rw (c.in-261.is, p, c.arithmetic.ensures))
+returns-in-261 c b = λ _ _ _ _ _ _ _ p q. rw (c.in-261.is, p, c.arithmetic.ensures)
 
 pub returns-in_default : goal.returns-in_default
 unfolding word_shift_of

@@ -12,9 +12,9 @@ pub load-requires : goal.load-requires
 load-requires c = rw c.index.ensures (place_index _ _ _ _ _ _ _
     (sym c.translate.ensures ∙ c.in-Ok.is))
 
-pub returns-in-Ok : goal.returns-in-Ok
+pub returns : goal.returns
 unfolding at_of done_of
-returns-in-Ok c =
+returns c =
     λ rest. wrote_does _ _ _ _ _ _ c.wrote.ensures _ (rw (
       sym c.translate.ensures
           ∙ c.in-Ok.is,

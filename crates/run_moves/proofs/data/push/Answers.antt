@@ -12,9 +12,9 @@ pub store-requires : goal.store-requires
 store-requires c = rw c.index.ensures (place_index _ _ _ _ _ _ _
     (sym c.translate.ensures ∙ c.in-Ok.is))
 
-pub returns-in-Ok : goal.returns-in-Ok
+pub returns : goal.returns
 unfolding done_of
-returns-in-Ok c =
+returns c =
     let top = c.difference-top.ensures in
     λ x. placed _ _ _ _ _ _ _ _ _ _ _ _ _ _ _ (sym (rw top at c.translate.ensures) ∙ c.in-Ok.is)
     (c.sum.ensures, refl, rw top, rw c.index.ensures at c.store.ensures)

@@ -6,14 +6,15 @@ use Rattle.run_done.proofs.Ways.{read, does_as}
 use Rattle.run_done.proofs.Parts.{store_parts}
 use Rattle.run_moves.proofs.data.store.Goals as goal
 
-pub returns-in-Store : goal.returns-in-Store
+pub returns : goal.returns
 unfolding execute_of access_of passed_of
-returns-in-Store c =
-    let told = read decode_store_of c.split.ensures c.imm_s.ensures c.store.ensures c.in-Memory.is in
+returns c =
+    let i = c.in-Memory-Store-default-default-default-default in
+    let told = read decode_store_of c.split.ensures c.imm_s.ensures c.store.ensures i.is in
     λ ssp rest. does_as c.store_at.result _ _ _ rest _ _ rest _ (rw (
       told,
-      c.in-Store.is,
-      c.reg-in-Store.ensures,
+      i.field-0-is,
+      c.reg-2.ensures,
       c.sum-a.ensures,
       c.reg.ensures,
     ) (store_parts _ _ _ _ _ _ _ _)) (c.store_at.ensures _ rest)

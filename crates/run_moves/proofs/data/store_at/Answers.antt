@@ -12,8 +12,8 @@ pub store-requires : goal.store-requires
 store-requires c = rw c.index.ensures (place_index _ _ _ _ _ _ _
     (sym c.quick_data.ensures ∙ c.in-Ok.is))
 
-pub returns-in-Ok : goal.returns-in-Ok
+pub returns : goal.returns
 unfolding done_of
-returns-in-Ok c =
+returns c =
     λ x rest. placed _ _ _ _ _ _ _ _ _ _ _ _ _ _ _ (sym c.quick_data.ensures ∙ c.in-Ok.is)
     (c.sum.ensures, refl, refl, rw c.index.ensures at c.store.ensures)

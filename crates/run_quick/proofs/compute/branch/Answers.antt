@@ -10,13 +10,13 @@ pub returns-then-condition : goal.returns-then-condition
 unfolding execute_of taken_of
 returns-then-condition c =
     let told = read decode_branch_of c.split.ensures c.imm_b.ensures c.branch-k.ensures c.in_Branch-k.is in
-    let holds = sym (rw (c.reg.ensures, c.reg-in_Branch-k.ensures) at c.condition.ensures) ∙ c.if-condition.true in
+    let holds = sym (rw (c.reg.ensures, c.reg-2.ensures) at c.condition.ensures) ∙ c.if-condition.true in
     λ pad ssp s rest m map e. does_as c.jumped.result _ _ _ rest m _ rest m (rw (told, holds, c.sum.ensures))
     (c.jumped.ensures rest m)
 
-pub returns-else-condition : goal.returns-else-condition
+pub returns : goal.returns
 unfolding execute_of taken_of
-returns-else-condition c =
+returns c =
     let told = read decode_branch_of c.split.ensures c.imm_b.ensures c.branch-k.ensures c.in_Branch-k.is in
-    let holds = sym (rw (c.reg.ensures, c.reg-in_Branch-k.ensures) at c.condition.ensures) ∙ c.if-condition.false in
-    λ pad ssp s rest m map e. wrote_does _ 0 0 _ _ _ c.wrote.ensures _ (rw (told, holds, c.sum-in_Branch-k.ensures)) rest m
+    let holds = sym (rw (c.reg.ensures, c.reg-2.ensures) at c.condition.ensures) ∙ c.if-condition.false in
+    λ pad ssp s rest m map e. wrote_does _ 0 0 _ _ _ c.wrote.ensures _ (rw (told, holds, c.sum-2.ensures)) rest m

@@ -6,9 +6,9 @@ use Rattle.run_done.proofs.Ways.{read}
 use Rattle.run_quick.proofs.Padless.{padless}
 use Rattle.run_quick.proofs.compute.jalr.Goals as goal
 
-pub returns-else-expected : goal.returns-else-expected
+pub returns : goal.returns
 unfolding execute_of jumpOf
-returns-else-expected c =
+returns c =
     let told = read decode_jalr_of c.split.ensures c.imm_i.ensures c.jalr.ensures c.in-Jalr.is in
     λ ssp s rest m map e. padless c.jumped.result _ _ _ _ _ _ rest m _ c.if-expected.false (rw (
       told,
@@ -16,7 +16,7 @@ returns-else-expected c =
       c.even-target.ensures,
       c.sum.ensures,
       c.reg.ensures,
-      c.sum-in-Jalr.ensures,
+      c.sum-2.ensures,
       c.expected.ensures,
       c.needs_no_pad.ensures,
     )) (c.jumped.ensures rest m)

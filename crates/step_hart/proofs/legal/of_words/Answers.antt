@@ -1,7 +1,12 @@
--- `legal::of_words` meets its contract. Assumes nothing.
+-- `legal::of_words` meets its contract: register 0, and then the other words. Assumes nothing.
+use borrow.Author.Tests.{eq-eqb, ne_eqb}
 use Rattle.step_hart.specs.Hart.{legal}
 use Rattle.step_hart.proofs.legal.of_words.Goals as goal
 
-pub returns : goal.returns
+pub returns-then-x-eq0 : goal.returns-then-x-eq0
 unfolding legal
-returns c = rw (c.both.ensures, c.legal.ensures)
+returns-then-x-eq0 c = rw (eq-eqb _ _ c.if-x-eq0.true, c.legal.ensures)
+
+pub returns-else-x-eq0 : goal.returns-else-x-eq0
+unfolding legal
+returns-else-x-eq0 c = rw (ne_eqb _ _ c.if-x-eq0.false)
