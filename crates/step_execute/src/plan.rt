@@ -11,7 +11,7 @@ use isa::Exception;
 use step_effect::Effect;
 use step_effect::register::reg;
 use step_meaning::Source;
-use word::{choice, sum};
+use word::sum;
 
 #[tactic(auto, unfolding(step_meaning::specs::Plan::fetched_of))]
 fn fetch(source: Source, c: Control, pc: u64, mem: &[u8], map: &[u64]) -> Result<u32, Exception>
@@ -31,11 +31,8 @@ fn fetch(source: Source, c: Control, pc: u64, mem: &[u8], map: &[u64]) -> Result
 fn is_pad(w: u32, x7: u64) -> bool
     ensures { result ≡ is_pad_of w x7 }
 {
-    let label = (w / 4096) as u64;
-    choice::both(
-        w % 4096 == 0b0010111,
-        choice::either(label == 0, label == x7 / 4096 % 0x10_0000),
-    )
+    let label = u64::from(w / 4096);
+    w % 4096 == 0b0010111 && (label == 0 || label == x7 / 4096 % 0x10_0000)
 }
 
 // The effect of a word that was fetched or given.
@@ -52,7 +49,7 @@ fn landed(
     requires { length mem.now ≤ 2 ^ 20 }
     ensures { result ≡ landed_of w x.now pc elp ssp s mem.now map.now }
 {
-    if choice::both(elp, s.pad) {
+    if elp && s.pad {
         if is_pad(w, reg(x, 7)) {
             return Effect::Pad(sum::sum(pc, 4));
         }

@@ -3,7 +3,7 @@ ghost use Rattle.std.specs.Prelude.{◌≡◌, ◌^◌, ◌≤◌, length};
 ghost use Rattle.isa.specs.Size.{width_of};
 ghost use Rattle.address_place.specs.declared.Physical.{Physical};
 ghost use Rattle.address_place.specs.Place.{Within};
-ghost use Rattle.step_transfer.specs.Access.{zimop_gate, swap_gate, gate_of_instruction, address_of, popped_of, done_of, at_of, access_of};
+ghost use Rattle.step_transfer.specs.Access.{gate_of_instruction, address_of, popped_of, done_of, at_of, access_of};
 
 use address::{Virtual, kind, stack};
 use address_place::{Physical, steps};
@@ -20,33 +20,14 @@ pub enum Gate {
     Illegal,
 }
 
-fn zimop(shadow: bool) -> Gate
-    ensures { result ≡ zimop_gate shadow }
-{
-    if shadow {
-        return Gate::Open;
-    }
-    Gate::Off
-}
-
-fn swap(permitted: bool) -> Gate
-    ensures { result ≡ swap_gate permitted }
-{
-    if permitted {
-        return Gate::Open;
-    }
-    Gate::Illegal
-}
-
+// What a word of Zimop is, where the shadow stack is on and where it is off; and a swap, where it is permitted and where it is not.
 fn gate_of(a: Access, shadow: bool, permitted: bool) -> Gate
     ensures { result ≡ gate_of_instruction a shadow permitted }
 {
     match a {
-        Access::Load(_, _) => Gate::Open,
-        Access::Store(_) => Gate::Open,
-        Access::Push => zimop(shadow),
-        Access::Pop => zimop(shadow),
-        Access::Swap(_, _, _) => swap(permitted),
+        Access::Load(_, _) | Access::Store(_) => Gate::Open,
+        Access::Push | Access::Pop => if shadow { Gate::Open } else { Gate::Off },
+        Access::Swap(_, _, _) => if permitted { Gate::Open } else { Gate::Illegal },
     }
 }
 
@@ -55,11 +36,9 @@ fn address(a: Access, at: u64, ssp: u64) -> Virtual
     ensures { result.0 ≡ address_of a at ssp }
 {
     match a {
-        Access::Load(_, _) => Virtual(at),
-        Access::Store(_) => Virtual(at),
+        Access::Load(_, _) | Access::Store(_) | Access::Swap(_, _, _) => Virtual(at),
         Access::Push => stack::push(ssp),
         Access::Pop => Virtual(ssp),
-        Access::Swap(_, _, _) => Virtual(at),
     }
 }
 
@@ -132,9 +111,8 @@ pub fn access(
 {
     match gate_of(k, s.shadow, s.permitted) {
         Gate::Open => {
-            let c = s.control;
             let to = address(k, sum::sum(a, off), ssp);
-            let p = steps::translate(c, kind::kind(k), size::width(k), to, map, mem);
+            let p = steps::translate(s.control, kind::kind(k), size::width(k), to, map, mem);
             at(k, p, rd, a, b, ssp, next, mem)
         }
         Gate::Off => Effect::Write(rd, 0, next),
