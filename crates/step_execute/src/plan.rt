@@ -36,6 +36,7 @@ fn is_pad(w: u32, x7: u64) -> bool
 }
 
 // The effect of a word that was fetched or given.
+#[tactic(auto, unfolding(step_meaning::specs::Plan::landed_of))]
 fn landed(
     w: u32,
     x: &[u64; 32],
