@@ -69,7 +69,10 @@ impl Control {
     fn lifted(self) -> bool
         ensures { result ≡ lifted_of self.mode self.mprv self.mxr }
     {
-        matches!(self.mode, Mode::Machine) && self.mprv && self.mxr
+        match self.mode {
+            Mode::User | Mode::Supervisor => false,
+            Mode::Machine => self.mprv && self.mxr,
+        }
     }
 
     // Whether step 2 leaves an access of this kind as it is.
@@ -104,7 +107,6 @@ impl Control {
     }
 
     // Loads and stores are neither translated nor masked.
-    #[tactic(auto, unfolding(crate::specs::Control::flat_of))]
     pub fn flat(self) -> bool
         ensures { result ≡ flat_of self }
     {
