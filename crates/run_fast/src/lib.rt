@@ -52,7 +52,7 @@ pub struct Entry {
     pub rs2: u8,
 }
 
-// An empty entry: its address is no multiple of 4, so that no word has it.
+// An empty entry: its address is no multiple of 4, so that no word has it. Measured: an Option in its place takes 1 to 5 in 100 more (docs/SPEED.md).
 const EMPTY: Entry = Entry {
     pc: 1,
     value: 0,
