@@ -48,11 +48,11 @@ module _ (e : Entry) (s : Setting) (m map : List ℕ) (r : Read e s m map) where
 pub found : (f : Form) (at w pc : ℕ) (s : Setting) (m map : List ℕ) (q : Physical)
     → place_of s.control Fetch Word pc map (length m) ≡ Ok q → at ≡ q.0 - base → length m ≤ 2 ^ 20
     → w ≡ load_of m at 4 → Means f (decode_of w) w pc s → (f.rd < 32) × (f.rs1 < 32) × (f.rs2 < 32)
-    → (at < 2 ^ 20) × (pc ≡ pc) × Read (record { pc = pc; at = at; form = f }) s m map
+    → (at < 2 ^ 20) × (pc ≡ pc) × Read (record { pc = pc; value = f.value; at = at; op = f.op; rd = f.rd; rs1 = f.rs1; rs2 = f.rs2 }) s m map
 found f at w pc s m map q there e most l means small =
-    let r : Read (record { pc = pc; at = at; form = f }) s m map = record {
+    let r : Read (record { pc = pc; value = f.value; at = at; op = f.op; rd = f.rd; rs1 = f.rs1; rs2 = f.rs2 }) s m map = record {
       place = at_index s.control Fetch Word pc map (length m) q at there e;
       means = rw (← l) means;
       small = small;
     } in
-    (omega (arith, (reading (record { pc = pc; at = at; form = f }) s m map r).0, most), refl, r)
+    (omega (arith, (reading (record { pc = pc; value = f.value; at = at; op = f.op; rd = f.rd; rs1 = f.rs1; rs2 = f.rs2 }) s m map r).0, most), refl, r)

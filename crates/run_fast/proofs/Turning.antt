@@ -45,7 +45,7 @@ use Rattle.step_meaning.specs.declared.Source.TheVariants.{Fetch}
 use Rattle.step_hart.specs.Run.{Run, Midway}
 use Rattle.run_turn.specs.Glide.{hart_at, Straight, Fetches, Turned}
 use Rattle.run_turn.proofs.Gliding.{quickly, by_handler}
-use Rattle.run_fast.specs.Memo.{Read}
+use Rattle.run_fast.specs.Memo.{form_of, Read}
 use Rattle.run_fast.specs.declared.Entry.{Entry}
 
 -- the word that was read is the one that a fetch gives
@@ -57,9 +57,9 @@ fetches e w m map r =
 
 -- what is left is not done, and any other form does what the instruction does
 module _ (e : Entry) (x w m map : List ℕ) (zero : reg_of x 0 ≡ 0) (r : Read e (setting_of w) m map)
-    (fits : reg_of x e.form.rs2 < 2 ^ 64) (small : e.form.value < 2 ^ 64) (pc' : ℕ) (x' w' m' : List ℕ) where
+    (fits : reg_of x e.rs2 < 2 ^ 64) (small : e.value < 2 ^ 64) (pc' : ℕ) (x' w' m' : List ℕ) where
   abbrev f : Form
-  f = e.form
+  f = form_of e
 
   abbrev does : Effect
   does = does_of f.op f.rd (reg_of x f.rs1) (reg_of x f.rs2) f.value e.pc (SSP of w) (setting_of w).control m map
@@ -184,9 +184,9 @@ module _ (rd a r v pc ssp : ℕ) (c : Control) (m map : List ℕ) (z : pc % 4 �
 
 -- a form was carried out at pc, which is its entry's address
 module _ (e : Entry) (x w m map : List ℕ) (s : Setting) (st : Straight w) (zero : reg_of x 0 ≡ 0) (es : setting_of w ≡ s)
-    (r : Read e s m map) (hb : reg_of x e.form.rs2 < 2 ^ 64) (hv : e.form.value < 2 ^ 64) (pc' : ℕ) (x' w' m' : List ℕ) where
+    (r : Read e s m map) (hb : reg_of x e.rs2 < 2 ^ 64) (hv : e.value < 2 ^ 64) (pc' : ℕ) (x' w' m' : List ℕ) where
   abbrev does_at : (pc : ℕ) → Effect
-  does_at pc = does_of e.form.op e.form.rd (reg_of x e.form.rs1) (reg_of x e.form.rs2) e.form.value pc (SSP of w) s.control m map
+  does_at pc = does_of e.op e.rd (reg_of x e.rs1) (reg_of x e.rs2) e.value pc (SSP of w) s.control m map
 
   abbrev Carries : (pc : ℕ) → Type 0
   Carries pc =
@@ -197,7 +197,7 @@ module _ (e : Entry) (x w m map : List ℕ) (s : Setting) (st : Straight w) (zer
   own z d = (
     acted e x w m map zero (rw es r) hb hv pc' x' w' m' st (rw es d),
     applied_zero x w m zero (does_at e.pc) pc' x' w' m' d,
-    acted_lands e.form.rd _ _ e.form.value e.pc (SSP of w) s.control m map z e.form.op x w m' pc' x' w' d,
+    acted_lands e.rd _ _ e.value e.pc (SSP of w) s.control m map z e.op x w m' pc' x' w' d,
   )
 
   pub carried : (pc : ℕ) → e.pc ≡ pc → Carries pc
@@ -205,8 +205,8 @@ module _ (e : Entry) (x w m map : List ℕ) (s : Setting) (st : Straight w) (zer
 
 -- a form that adds was carried out by itself: its sum was written, and pc went on
 module _ (e : Entry) (x w m map : List ℕ) (s : Setting) (st : Straight w) (zero : reg_of x 0 ≡ 0) (es : setting_of w ≡ s)
-    (r : Read e s m map) (hb : reg_of x e.form.rs2 < 2 ^ 64) (hv : e.form.value < 2 ^ 64) (pc' : ℕ) (x' : List ℕ) (adds : e.form.op ≡ op.Add)
-    (pc : ℕ) (d : (pc' ≡ next_of pc) × (x' ≡ put_of e.form.rd (sum_of (reg_of x e.form.rs1) (sum_of (reg_of x e.form.rs2) e.form.value)) x)) where
+    (r : Read e s m map) (hb : reg_of x e.rs2 < 2 ^ 64) (hv : e.value < 2 ^ 64) (pc' : ℕ) (x' : List ℕ) (adds : e.op ≡ op.Add)
+    (pc : ℕ) (d : (pc' ≡ next_of pc) × (x' ≡ put_of e.rd (sum_of (reg_of x e.rs1) (sum_of (reg_of x e.rs2) e.value)) x)) where
   does_sum : Applied (does_at e x w m map s st zero es r hb hv pc' x' w m pc) x w m pc' x' w m
   unfolding does_of
   does_sum = rw adds (d.0, d.1, refl, refl)

@@ -11,6 +11,7 @@ use Rattle.memory.specs.Bytes.{load_of}
 use Rattle.address_place.specs.Place.{base, place_of}
 use Rattle.csr_setting.specs.declared.Setting.{Setting}
 use Rattle.run_form.specs.Form.{Means}
+use Rattle.run_form.specs.declared.Form.{Form}
 use Rattle.run_form.specs.declared.Op.TheVariants.{Add}
 use Rattle.run_fast.specs.declared.Entry.{Entry}
 
@@ -23,7 +24,11 @@ abbrev pub slot_of : (pc : ℕ) → ℕ
 slot_of pc = pc / 4 % 4096
 
 abbrev pub entry_at : (es : List Entry) → (k : ℕ) → Entry
-entry_at es k = get_or es k (record { pc = 0; at = 0; form = record { op = Add; rd = 0; rs1 = 0; rs2 = 0; value = 0 } })
+entry_at es k = get_or es k (record { pc = 0; value = 0; at = 0; op = Add; rd = 0; rs1 = 0; rs2 = 0 })
+
+-- the form whose parts an entry has
+abbrev pub form_of : Entry → Form
+form_of e = record { op = e.op; rd = e.rd; rs1 = e.rs1; rs2 = e.rs2; value = e.value }
 
 -- whether a word was taken from the frame that index i of memory is in
 abbrev pub flag_at : (frames : List Bool) → (i : ℕ) → Bool
@@ -32,8 +37,8 @@ flag_at frames i = get_or frames (i / 4096) false
 -- what was read at an entry's address: the word stands at this index, and the form does what its instruction does
 pub record Read (e : Entry) (s : Setting) (m map : List ℕ) : Type 0 where
   pub place : place_of s.control Fetch Word e.pc map (length m) ≡ Ok (record { 0 = base + e.at })
-  pub means : Means e.form (decode_of (load_of m e.at 4)) (load_of m e.at 4) e.pc s
-  pub small : (e.form.rd < 32) × (e.form.rs1 < 32) × (e.form.rs2 < 32)
+  pub means : Means (form_of e) (decode_of (load_of m e.at 4)) (load_of m e.at 4) e.pc s
+  pub small : (e.rd < 32) × (e.rs1 < 32) × (e.rs2 < 32)
 
 -- an entry is that of its address, was read there, and its frame is known to have one
 pub record Stands (e : Entry) (frames : List Bool) (k : ℕ) (s : Setting) (m map : List ℕ) : Type 0 where

@@ -26,7 +26,7 @@ ghost use Rattle.run_fast.specs.Memo.{slot_of, Read, Fewer, Clear, AllClear, Emp
 use address::Virtual;
 use address_place::steps::fetch;
 use csr_setting::Setting;
-use csr_words::{COUNT as WORDS, ELP, PC, setting, sized};
+use csr_words::{COUNT as WORDS, ELP, PC, setting};
 use decode::{plain, privileged};
 use run_form::{Form, Op};
 use run_pages::COUNT as PAGES;
@@ -38,25 +38,28 @@ const COUNT: usize = 4096;
 
 const FRAMES: usize = 256;
 
-// What is known of the word at an address: where it stands in memory, and its form.
+// What is known of the word at an address: its form, whose parts stand here so that an entry has 24 bytes (the memo is a local, and
+// include/sporhulma.h says how much stack a run needs), and where it stands in memory.
 #[derive(Clone, Copy)]
 pub struct Entry {
     pub pc: u64,
-    pub at: usize,
-    pub form: Form,
+    pub value: u64,
+    pub at: u32,
+    pub op: Op,
+    pub rd: u8,
+    pub rs1: u8,
+    pub rs2: u8,
 }
 
-// An empty entry: its address is no multiple of 4, so that no word has it.
+// An empty entry: its address is no multiple of 4, so that no word has it. Measured: an Option in its place takes 1 to 5 in 100 more (docs/SPEED.md).
 const EMPTY: Entry = Entry {
     pc: 1,
+    value: 0,
     at: 0,
-    form: Form {
-        op: Op::Left,
-        rd: 0,
-        rs1: 0,
-        rs2: 0,
-        value: 0,
-    },
+    op: Op::Left,
+    rd: 0,
+    rs1: 0,
+    rs2: 0,
 };
 
 // A word's form. A privileged one has none, so that it need not be decoded.
@@ -79,8 +82,16 @@ fn read(pc: u64, s: Setting, mem: &[u8], map: &[u64]) -> Option<Entry>
     match fetch(c, Virtual(pc), map, mem) {
         Ok(q) => {
             let at = q.index();
-            let form = of_word(memory::word(mem, at), pc, s);
-            Some(Entry { pc, at, form })
+            let f = of_word(memory::word(mem, at), pc, s);
+            Some(Entry {
+                pc,
+                value: f.value,
+                at: at as u32,
+                op: f.op,
+                rd: f.rd,
+                rs1: f.rs1,
+                rs2: f.rs2,
+            })
         }
         Err(_) => None,
     }
@@ -101,7 +112,7 @@ fn enter(
 {
     let e = read(pc, s, mem, map)?;
     entries[(pc / 4 % 4096) as usize] = e;
-    frames[e.at / 4096] = true;
+    frames[(e.at / 4096) as usize] = true;
     Some(e)
 }
 
@@ -110,7 +121,7 @@ fn clear(entries: &mut [Entry; COUNT], k: usize, eight: usize)
     requires { k < 4096 }
     ensures { Fewer entries.old entries.new × Clear entries.new k eight }
 {
-    if entries[k].at / 8 == eight {
+    if (entries[k].at / 8) as usize == eight {
         entries[k] = EMPTY;
     }
 }
@@ -146,16 +157,16 @@ fn value(x: &[u64; 32], n: u8) -> u64
     x[n as usize]
 }
 
-// The sum that a form is, and pc after it.
-fn added(f: &Form, x: &mut [u64; 32], pc: u64) -> u64
-    requires { (f.now.rd < 32) × (f.now.rs1 < 32) × (f.now.rs2 < 32) }
+// The sum that an entry is, and pc after it.
+fn added(e: &Entry, x: &mut [u64; 32], pc: u64) -> u64
+    requires { (e.now.rd < 32) × (e.now.rs1 < 32) × (e.now.rs2 < 32) }
     ensures sum { (result ≡ next_of pc)
-        × (x.new ≡ put_of f.now.rd (sum_of (reg_of x.old f.now.rs1) (sum_of (reg_of x.old f.now.rs2) f.now.value)) x.old) }
-    ensures small { (reg_of x.old f.now.rs2 < 2 ^ 64) × (f.now.value < 2 ^ 64) }
+        × (x.new ≡ put_of e.now.rd (sum_of (reg_of x.old e.now.rs1) (sum_of (reg_of x.old e.now.rs2) e.now.value)) x.old) }
+    ensures small { (reg_of x.old e.now.rs2 < 2 ^ 64) × (e.now.value < 2 ^ 64) }
 {
-    let b = sum::sum(value(x, f.rs2), f.value);
-    let v = sum::sum(value(x, f.rs1), b);
-    run_act::computed(x, f.rd as usize, v, pc).unwrap().pc
+    let b = sum::sum(value(x, e.rs2), e.value);
+    let v = sum::sum(value(x, e.rs1), b);
+    run_act::computed(x, e.rd as usize, v, pc).unwrap().pc
 }
 
 // A trap handler's CSR instruction, whose word stands at this index.
@@ -195,20 +206,20 @@ fn steps(
                 return Glided { pc, left };
             };
         }
-        let f = &entries[k].form;
+        let e = &entries[k];
         // Asked before the jump that all others share, since sums are what programs do most, and the processor foresees a branch better than where
         // that jump goes (docs/SPEED.md).
-        if matches!(f.op, Op::Add) {
-            pc = added(f, x, pc);
+        if matches!(e.op, Op::Add) {
+            pc = added(e, x, pc);
             left = left - 1;
             continue;
         }
         match run_act::act(
-            f.op,
-            f.rd as usize,
-            value(x, f.rs1),
-            value(x, f.rs2),
-            f.value,
+            e.op,
+            e.rd as usize,
+            value(x, e.rs1),
+            value(x, e.rs2),
+            e.value,
             x,
             w,
             pc,
@@ -222,7 +233,7 @@ fn steps(
                 pc = t.pc;
             }
             None => {
-                if !handled(entries[k].at, mem, x, w) {
+                if !handled(entries[k].at as usize, mem, x, w) {
                     return Glided { pc, left };
                 }
                 pc = sum::sum(pc, 4);
@@ -252,7 +263,6 @@ pub fn fast(
     ensures { Midway (run_from Fetch budget (hart x.old w.old) mem.old map.now) budget
         result Fetch (hart x.new w.new) mem.new map.now }
 {
-    sized(*w);
     let pc = w[PC];
     if open(w[ELP], x[0], pc) {
         let s = setting::setting(w);

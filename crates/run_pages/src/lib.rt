@@ -24,7 +24,8 @@ pub struct Page {
     pub at: usize,
 }
 
-// Nothing is remembered: no page begins at 8, nor is an address near it as the test in `seek` asks.
+// Nothing is remembered: no page begins at 8, nor is an address near it as the test in `seek` asks. Measured: an Option in its place makes a load or a
+// store half as long again (docs/SPEED.md).
 pub const EMPTY: Page = Page { first: 8, at: 0 };
 
 // The page of address a, remembered at j, if an access to its first address has a place and its frame lies in memory whole.

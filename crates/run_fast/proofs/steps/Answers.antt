@@ -66,7 +66,7 @@ loop-left-preserved-then-matches c =
     let j = (goal.at.loop-left-preserved-then-matches c).Joined-entries-k in
     let i = c.loop-left in
     let p = ready j in
-    let adds : (e j).form.op ≡ op.Add = elim c.match-matches.branch [
+    let adds : (e j).op ≡ op.Add = elim c.match-matches.branch [
       | in-Add w ↦ w.in-Add.is
       | in_default-matches w ↦ absurd (clash (sym w.matches-is ∙ c.if-matches.true))
     ] in
@@ -110,7 +110,7 @@ loop-left-preserved c =
     elim c.match-act.branch [
       | in-Some-act w ↦
           let did = w.in-Some-act.ensures.does in
-          let hb : reg_of i.x (e j).form.rs2 < 2 ^ 64 = rw (← c.value-in-loop-left.ensures) c.value-in-loop-left.type_inv in
+          let hb : reg_of i.x (e j).rs2 < 2 ^ 64 = rw (← c.value-in-loop-left.ensures) c.value-in-loop-left.type_inv in
           let (t, zero, z) = carried (e j) i.x i.w i.mem c.args.map.now c.args.s i.invariant.1 i.invariant.3 i.invariant.2 (read j) hb (omega arith)
           w.in-Some-act.t.pc c.act.new.x c.act.new.w c.act.new.mem i.pc p.2 i.invariant.4 (rw (c.value.ensures, c.value-in-loop-left.ensures) at did.0) in
           let n = again _ _ i.left Fetch (hart_at i.pc i.x i.w) i.mem _ i.invariant.9 c.loop-left-test.true t.0 in
