@@ -90,13 +90,13 @@ module _ (whole : Run) (budget left : ℕ) (source : Source) (g : Hart) (m map :
 
     pub ends : is_some trap ≡ true
         → (whole
-            ≡ record {
-              hart = hart x w;
-              memory = n;
-              count = budget - (left - 1);
-              trapped = true;
-              cause = (step_from source g m map).cause;
-            })
+        ≡ record {
+          hart = hart x w;
+          memory = n;
+          count = budget - (left - 1);
+          trapped = true;
+          cause = (step_from source g m map).cause;
+        })
         × (trap ≡ Some (step_from source g m map).cause)
     ends q = (
       rw (same_hart _ x w ex ew, en) (ended some (said ∙ q)),
