@@ -12,7 +12,7 @@ use Rattle.word.proofs.Bools.{both, neither}
 use Rattle.memory.specs.Refusal.{memory_refused_of}
 use Rattle.intel_hex.specs.Lines.{lines_of}
 use Rattle.intel_hex.specs.Line.{good}
-use Rattle.intel_hex.specs.Load.{upper_after_of, first_bad_of, placed, stored, refused_with, judged, load_hex_of}
+use Rattle.intel_hex.specs.Load.{upper_after_of, first_bad_of, placed, stored, load_refused, judged, load_hex_of}
 use Rattle.intel_hex.proofs.Named.{names, some_names, upper_at, data_at, byte_after}
 use Rattle.intel_hex.specs.Inner.{all_good}
 use Rattle.intel_hex.specs.declared.Refusal.{Refusal}
@@ -50,8 +50,8 @@ module _ (text mem : List ℕ) where
 
   -- memory is refused, or the text has a bad line, or it has none
   verdict : {A : Type 0}
-      → (load_hex_of text mem ≡ refused_with Memory mem → A)
-      → ((n : ℕ) → Bad ≡ Some n → load_hex_of text mem ≡ refused_with (Line n) mem → A)
+      → (load_hex_of text mem ≡ load_refused Memory mem → A)
+      → ((n : ℕ) → Bad ≡ Some n → load_hex_of text mem ≡ load_refused (Line n) mem → A)
       → (memory_refused_of (length mem) ≡ false → Bad ≡ None → load_hex_of text mem ≡ accepted_with mem (lines_of text) → A) → A
   verdict f g h =
       by_test (memory_refused_of (length mem)) (λ e. f (refused_2 text mem e)) (λ e. by_line Bad

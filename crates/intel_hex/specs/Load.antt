@@ -44,9 +44,9 @@ stored upper mem [] = mem
 stored upper mem (l ∷ ls) = stored (upper_after_of upper l) (placed upper l mem) ls
 
 -- the number of a refusal, and the line that it names, 0 where it names none
-abbrev pub number_of : Refusal → ℕ
-number_of Memory = 2
-number_of (Line n) = 6
+abbrev pub load_refusal_number : Refusal → ℕ
+load_refusal_number Memory = 2
+load_refusal_number (Line n) = 6
 
 abbrev pub line_of : Refusal → ℕ
 line_of Memory = 0
@@ -57,15 +57,15 @@ pub record HexCalled : Type 0 where
   pub answer : Result (Option ℕ) Refusal
   pub memory : List ℕ
 
-abbrev pub refused_with : (e : Refusal) → (mem : List ℕ) → HexCalled
-refused_with e mem = record { answer = Err e; memory = mem }
+abbrev pub load_refused : (e : Refusal) → (mem : List ℕ) → HexCalled
+load_refused e mem = record { answer = Err e; memory = mem }
 
 -- the lines of a text, by the first bad one: all of it is judged before a byte is stored
 abbrev pub judged : (bad : Option ℕ) → (mem : List ℕ) → (ls : List (List ℕ)) → HexCalled
 judged None mem ls = record { answer = Ok (last_start None ls); memory = stored 0 mem ls }
-judged (Some bad) mem ls = refused_with (Line bad) mem
+judged (Some bad) mem ls = load_refused (Line bad) mem
 
 -- refusal 2 comes first
 unfoldable pub load_hex_of : (text mem : List ℕ) → HexCalled
 load_hex_of text mem =
-    pick (memory_refused_of (length mem)) (refused_with Memory mem) (judged (first_bad_of (length mem) 0 1 (lines_of text)) mem (lines_of text))
+    pick (memory_refused_of (length mem)) (load_refused Memory mem) (judged (first_bad_of (length mem) 0 1 (lines_of text)) mem (lines_of text))

@@ -2,7 +2,7 @@
 #![tactic(auto)]
 
 ghost use Rattle.std.specs.Prelude.{◌≡◌};
-ghost use Rattle.intel_hex.specs.Load.{number_of, line_of, load_hex_of};
+ghost use Rattle.intel_hex.specs.Load.{load_refusal_number, line_of, load_hex_of};
 
 // Hex digits and pairs, and the table of them.
 mod pair;
@@ -27,7 +27,7 @@ pub enum Refusal {
 impl Refusal {
     // Refusals have numbers, for callers that know no enum.
     pub fn number(self) -> u64
-        ensures { result ≡ number_of self }
+        ensures { result ≡ load_refusal_number self }
     {
         match self {
             Refusal::Memory => 2,

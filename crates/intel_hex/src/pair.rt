@@ -24,7 +24,9 @@ pub struct Table {
 }
 
 impl Table {
-    pub fn new() -> Table {
+    pub fn new() -> Table
+        ensures { Filled result.low result.high 256 }
+    {
         let mut low = [0; 256];
         let mut high = [0; 256];
         for b in 0..256 {

@@ -1,6 +1,6 @@
 -- The library's operations on signed numbers of 64 and 128 bits are those of specs/.
 -- Assumes nothing.
-use Rattle.std.proofs.Common.{◌≡◌, ℕ, zero, suc, ℤ, pos, Bool, true, false, ◌+◌, ◌-◌, ◌*◌, ◌/◌, ◌%◌, ◌^◌, ◌<◌, ◌≤◌, refl, sym, ap, ◌∙◌, mod-lt, mod-eq_of_lt, div-le_self, arith, pow_pos}
+use Rattle.std.proofs.Common.{◌≡◌, ℕ, zero, suc, ℤ, pos, Bool, ◌-◌, ◌/◌, ◌%◌, ◌^◌, ◌<◌, ◌≤◌, refl, sym, ap, ◌∙◌, mod-lt, mod-eq_of_lt, div-le_self, arith, pow_pos}
 use Rattle.std.proofs.lemmas.Int.{of_z-to_z, wrapping_mul_is, fits_signed_from_abs}
 use Rattle.std.specs.Int.{int_rem_euclid, int_wrap, int_wrapping_mul}
 use Rattle.std.specs.Int.RustNames.{FitsSigned, unsigned_abs}
@@ -10,7 +10,6 @@ use lib.Pow.{field}
 use lib.Signed.{quot_z, rem_z, shr_z}
 use mir.Syntax.{w64, w128}
 use mir.Val.{of_z, to_z}
-use Rattle.word.specs.Sign.{signed_of}
 use Rattle.word.proofs.Filling.{complement_shifted}
 use Rattle.product.specs.Integer.{integer_of, low_bits_of}
 use Rattle.product.proofs.Reading.{Reads, plain, below, reads}

@@ -1,6 +1,6 @@
 -- A quotient and a remainder at both sizes: the word form is the one of 64 bits, of the low 32 with their sign or without.
 -- Assumes nothing.
-use Rattle.std.proofs.Common.{◌≡◌, ℕ, suc, ℤ, pos, Bool, true, false, ◌+◌, ◌-◌, ◌*◌, ◌/◌, ◌%◌, ◌^◌, ◌<◌, ◌≤◌, ◌⊎◌, inl, inr, refl, sym, ap, ap₂, ◌∙◌, mod-lt, mod-eq_of_lt, arith}
+use Rattle.std.proofs.Common.{◌≡◌, ℕ, ℤ, pos, Bool, true, false, ◌%◌, ◌^◌, ◌<◌, inl, inr, refl, sym, ap, ◌∙◌, mod-eq_of_lt, arith}
 use native.Mathlib.Nat.{mod-mod}
 use borrow.Author.Tests.{eq-eqb, ne_eqb}
 use lib.IntN.{negsuc}
@@ -12,7 +12,7 @@ use Rattle.word.proofs.Extension.{extend_low, extend_keeps, extend_signed}
 use Rattle.word.proofs.Machine.{extend_all}
 use Rattle.product.specs.Integer.{integer_of, low_bits_of}
 use Rattle.product.specs.Quotient.{quotient_of, remainder_of, quotient_word_of, remainder_word_of}
-use Rattle.product.proofs.Below.{Result, quotient, remainder, below}
+use Rattle.product.proofs.Below.{quotient, remainder, below}
 
 -- the low k bits, with their sign or without
 abbrev pub operand_of : (s : Bool) (k a : ℕ) → ℕ

@@ -17,11 +17,11 @@ use Rattle.run_call.specs.declared.Refusal.{Refusal}
 use Rattle.run_call.specs.declared.Refusal.TheVariants as refusal
 
 -- a refusal's number
-abbrev pub number_of : Refusal → ℕ
-number_of refusal.Hart = 1
-number_of refusal.Memory = 2
-number_of refusal.Map = 3
-number_of refusal.Budget = 4
+abbrev pub refusal_number : Refusal → ℕ
+refusal_number refusal.Hart = 1
+refusal_number refusal.Memory = 2
+refusal_number refusal.Map = 3
+refusal_number refusal.Budget = 4
 
 -- refusals 1 to 3, the one of the lowest number that applies, if one does
 unfoldable pub refusal_of : Hart → (m map : List ℕ) → Option Refusal

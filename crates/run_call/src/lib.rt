@@ -4,7 +4,7 @@
 
 ghost use Rattle.std.specs.Prelude.{◌≡◌, Some, None};
 ghost use Rattle.step_hart.specs.Hart.{hart};
-ghost use Rattle.run_call.specs.Call.{number_of, refusal_of, run_refusal_of};
+ghost use Rattle.run_call.specs.Call.{refusal_number, refusal_of, run_refusal_of};
 
 use address_page::map;
 use csr_words::COUNT;
@@ -22,7 +22,7 @@ pub enum Refusal {
 impl Refusal {
     // The refusal's number.
     pub fn number(self) -> u64
-        ensures { result ≡ number_of self }
+        ensures { result ≡ refusal_number self }
     {
         self as u64
     }

@@ -9,7 +9,7 @@ ghost use Rattle.step_meaning.specs.declared.Source.TheVariants.{Fetch};
 ghost use Rattle.csr_words.specs.Setting.{setting_of};
 ghost use Rattle.step_hart.specs.Hart.{hart};
 ghost use Rattle.step_hart.specs.Run.{run_from, Midway};
-ghost use Rattle.run_turn.specs.Glide.{Straight, Fetches, Taken, Glides};
+ghost use Rattle.run_turn.specs.Glide.{Straight, Fetches, TurnTaken, Glides};
 
 use address_place::window;
 use address_place::window::Window;
@@ -30,7 +30,7 @@ fn instruction(
     map: &[u64],
 ) -> Option<u64>
     requires { (length mem.old ≤ 2 ^ 20) × Straight w.old × Knows k (setting_of w.old) × Fetches word pc w.old mem.old map.now }
-    ensures { Taken result pc x.old w.old mem.old map.now x.new w.new mem.new }
+    ensures { TurnTaken result pc x.old w.old mem.old map.now x.new w.new mem.new }
 {
     if let Some(next) = opcodes::word(word, x, w, pc, k, mem, map) {
         return Some(next);
@@ -53,7 +53,7 @@ fn turn(
 ) -> Option<u64>
     requires { (length mem.old ≤ 2 ^ 20) × Straight w.old × Knows k (setting_of w.old)
         × Shows v k.setting.control map.now (length mem.old) }
-    ensures { Taken result pc x.old w.old mem.old map.now x.new w.new mem.new }
+    ensures { TurnTaken result pc x.old w.old mem.old map.now x.new w.new mem.new }
 {
     let word = opcodes::fetch(v, pc, mem)?;
     instruction(word, x, w, pc, k, mem, map)

@@ -36,9 +36,9 @@ Turned true pc x w m map pc' x' w' m' =
 Turned false pc x w m map pc' x' w' m' = (x' ≡ x) × (w' ≡ w) × (m' ≡ m)
 
 -- the same of what tells where pc goes on, if a step was taken
-abbrev pub Taken : Option ℕ → (pc : ℕ) → (x w m map : List ℕ) → (x' w' m' : List ℕ) → Type 0
-Taken (Some pc') pc x w m map x' w' m' = Turned true pc x w m map pc' x' w' m'
-Taken None pc x w m map x' w' m' = Turned false pc x w m map pc x' w' m'
+abbrev pub TurnTaken : Option ℕ → (pc : ℕ) → (x w m map : List ℕ) → (x' w' m' : List ℕ) → Type 0
+TurnTaken (Some pc') pc x w m map x' w' m' = Turned true pc x w m map pc' x' w' m'
+TurnTaken None pc x w m map x' w' m' = Turned false pc x w m map pc x' w' m'
 
 -- some of a run's steps were taken, and none of them trapped
 abbrev pub Glides : (budget pc : ℕ) → (x w m map : List ℕ) → Glided → (x' w' m' : List ℕ) → Type 0

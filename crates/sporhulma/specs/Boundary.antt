@@ -6,7 +6,7 @@ use Rattle.step_meaning.specs.declared.Source.{Source}
 use Rattle.step_hart.specs.Run.{run_from}
 use Rattle.step_hart.specs.Hart.{hart}
 use Rattle.run_call.specs.declared.Refusal.{Refusal}
-use Rattle.run_call.specs.Call.{Called, number_of, run_refusal_of, called_of, step_call_of, step_word_call, run_call_of}
+use Rattle.run_call.specs.Call.{Called, refusal_number, run_refusal_of, called_of, step_call_of, step_word_call, run_call_of}
 
 -- what a call leaves: its result, the hart's words, the three words of its answer (count, trapped, cause), and memory
 pub record Left : Type 0 where
@@ -19,7 +19,7 @@ pub record Left : Type 0 where
 -- the result: the refusal's number, and 0 where there is none
 abbrev pub result_of : Option Refusal → ℕ
 result_of None = 0
-result_of (Some n) = number_of n
+result_of (Some n) = refusal_number n
 
 -- whether a run trapped, as 1 or 0, and the cause, or 0
 abbrev pub trapped_word : Option ℕ → ℕ

@@ -1,6 +1,6 @@
 -- The library's signed numbers of 64 bits are those of specs/Sign.antt, and its shift of one is the shift that copies the sign.
 -- Assumes nothing.
-use Rattle.std.proofs.Common.{◌≡◌, ℕ, ℤ, pos, suc, Bool, true, false, ◌+◌, ◌-◌, ◌*◌, ◌/◌, ◌%◌, ◌^◌, ◌<◌, ◌≤◌, refl, sym, ap, ◌∙◌, add-zero, div-one, mod-lt, mod-eq_of_lt, arith, pow_pos}
+use Rattle.std.proofs.Common.{◌≡◌, ℕ, ℤ, pos, suc, Bool, true, false, ◌+◌, ◌-◌, ◌*◌, ◌/◌, ◌%◌, ◌^◌, ◌<◌, ◌≤◌, refl, sym, ap, ◌∙◌, add-zero, mod-lt, mod-eq_of_lt, arith, pow_pos}
 use Rattle.std.proofs.lemmas.Int.{of_z-to_z}
 use Rattle.std.proofs.Math.Nat.{mul-mod_left}
 use lib.Pow.{mod-pow-add, shl-shr, shr-shr}

@@ -1,5 +1,5 @@
 -- `memory::load` meets its contract: of one byte the number is the byte. Assumes nothing.
-use Rattle.std.proofs.Common.{◌≡◌, ◌+◌, ◌≤◌, ◌∙◌, length, sym}
+use Rattle.std.proofs.Common.{◌∙◌, sym}
 use Rattle.memory.proofs.Halves.{load_one}
 use Rattle.memory.proofs.load.Goals as goal
 

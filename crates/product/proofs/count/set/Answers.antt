@@ -1,5 +1,5 @@
 -- `product::count::set` meets its contract: the library's count of the low bits. Assumes nothing.
-use Rattle.std.proofs.Common.{◌≡◌, ◌∙◌, ap}
+use Rattle.std.proofs.Common.{◌∙◌, ap}
 use lib.Count.{ones}
 use Rattle.product.proofs.Digits.{set_same}
 use Rattle.product.proofs.count.set.Goals as goal

@@ -1,5 +1,5 @@
 -- `product::count::trailing` meets its contract: of 0 the count is that of all low bits. Assumes nothing.
-use Rattle.std.proofs.Common.{◌≡◌, ◌∙◌, ap, min}
+use Rattle.std.proofs.Common.{◌∙◌, ap, min}
 use lib.Count.{count_trailing_zeros}
 use Rattle.word.proofs.Sizes.{size_range}
 use Rattle.product.proofs.Digits.{trailing_above}

@@ -1,5 +1,5 @@
 -- `product::divide::divided` meets its contract: what the manual says where b is 0, else the library's quotient. Assumes nothing.
-use Rattle.std.proofs.Common.{◌≡◌, ◌∙◌, ◌^◌, true, sym, ap, ap₂, arith, of_z, to_z, lt_of_le_of_lt, mod-eq_of_lt, div-le_self}
+use Rattle.std.proofs.Common.{◌∙◌, true, sym, ap, ap₂, of_z, to_z, lt_of_le_of_lt, mod-eq_of_lt, div-le_self}
 use Rattle.std.proofs.lemmas.Int.{of_z-to_z}
 use Rattle.std.specs.Int.{int_wrapping_div}
 use borrow.Author.Tests.{eq-eqb, ne_eqb}

@@ -1,6 +1,5 @@
 -- `product::divide::left` meets its contract: what the manual says where b is 0, else the library's remainder. Assumes nothing.
-use Rattle.std.proofs.Common.{◌≡◌, ◌∙◌, ◌^◌, true, sym, ap, ap₂, arith, of_z, to_z, lt_of_le_of_lt, mod-eq_of_lt, div-le_self}
-use Rattle.std.proofs.lemmas.Int.{of_z-to_z}
+use Rattle.std.proofs.Common.{◌∙◌, true, sym, ap, ap₂, of_z, to_z, lt_of_le_of_lt, mod-eq_of_lt}
 use native.Mathlib.Nat.{mod-le}
 use borrow.Author.Tests.{eq-eqb, ne_eqb}
 use lib.Signed.{rem_z}
@@ -9,7 +8,6 @@ use Rattle.word.specs.Sign.{signed_of}
 use Rattle.word.proofs.Machine.{cast_held}
 use Rattle.product.specs.Quotient.{remainder_of}
 use Rattle.product.proofs.Machine.{remainder_small, number_small, cast_low}
-use Rattle.product.proofs.Range.{word_below}
 use Rattle.product.proofs.divide.left.Goals as goal
 
 pub returns-then-b-eq0 : goal.returns-then-b-eq0

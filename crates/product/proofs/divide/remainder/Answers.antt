@@ -1,5 +1,5 @@
 -- `product::divide::remainder` meets its contract at both sizes. Assumes nothing.
-use Rattle.std.proofs.Common.{◌≡◌, ◌∙◌, ap, ap₂}
+use Rattle.std.proofs.Common.{◌∙◌, ap, ap₂}
 use Rattle.word.specs.Sign.{sign_extend_of}
 use Rattle.product.specs.Quotient.{remainder_of}
 use Rattle.product.proofs.Sized.{remainder_at}

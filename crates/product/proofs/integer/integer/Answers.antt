@@ -1,7 +1,7 @@
 -- `product::integer::integer` meets its contract: the library's cast keeps the number that the word is read as. Assumes nothing.
-use Rattle.std.proofs.Common.{◌≡◌, ◌∙◌, true, ap, of_z, to_z}
+use Rattle.std.proofs.Common.{true}
 use Rattle.std.proofs.lemmas.Int.{to_z-of_z}
-use mir.Syntax.{w64, w128}
+use mir.Syntax.{w128}
 use Rattle.word.proofs.Machine.{cast_held}
 use Rattle.product.proofs.Machine.{number_fits}
 use Rattle.product.proofs.integer.integer.Goals as goal

@@ -1,5 +1,5 @@
 -- `product::multiply::product` meets its contract at both sizes. Assumes nothing.
-use Rattle.std.proofs.Common.{◌≡◌, ◌∙◌, ℕ, ◌^◌, ◌<◌, ◌⊎◌, inl, inr, mod-lt, arith, sym}
+use Rattle.std.proofs.Common.{◌≡◌, ◌∙◌, ℕ, inl, inr, mod-lt, arith, sym}
 use Rattle.word.specs.Sign.{sign_extend_of}
 use Rattle.word.specs.Size.{IsSize, sized}
 use Rattle.word.proofs.Machine.{extend_all}

@@ -1,5 +1,5 @@
 -- `product::multiply::upper` meets its contract: bits 127:64 of the library's product of 128 bits. Assumes nothing.
-use Rattle.std.proofs.Common.{◌≡◌, ◌∙◌, ap, ap₂, ◌/◌, ◌^◌, of_z}
+use Rattle.std.proofs.Common.{◌∙◌, ap, ap₂, ◌/◌, ◌^◌, of_z}
 use Rattle.std.specs.Int.{int_wrapping_mul}
 use mir.Syntax.{w128}
 use Rattle.product.specs.Integer.{integer_of}

@@ -1,5 +1,5 @@
 -- `word::order::signed_less` meets its contract: the library's order is that of the signed numbers. Assumes nothing.
-use Rattle.std.proofs.Common.{◌∙◌, sym, ap, ap₂, of_z, to_z}
+use Rattle.std.proofs.Common.{◌∙◌, sym, ap₂, of_z, to_z}
 use lib.Signed.{lt_z}
 use mir.Syntax.{w64}
 use Rattle.word.proofs.Machine.{cast_held}

@@ -1,5 +1,5 @@
 -- `word::shift::arithmetic` meets its contract at both sizes. Assumes nothing.
-use Rattle.std.proofs.Common.{◌≡◌, ◌∙◌, ◌%◌, ◌^◌, ◌<◌, ◌≤◌, ◌⊎◌, inl, inr, ℕ, ap, arith, of_z, to_z, mod-lt}
+use Rattle.std.proofs.Common.{◌≡◌, ◌∙◌, ◌%◌, ◌^◌, ◌<◌, ◌≤◌, inl, inr, ℕ, ap, arith, of_z, to_z}
 use mir.Syntax.{w64}
 use lib.Signed.{shr_z}
 use Rattle.word.specs.Shift.{shifted_arithmetic, arithmetic_of, arithmetic_word_of}

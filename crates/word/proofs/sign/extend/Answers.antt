@@ -1,5 +1,5 @@
 -- `word::sign::extend` meets its contract. Assumes nothing.
-use Rattle.std.proofs.Common.{◌-◌, ◌*◌, ◌%◌, ◌^◌, ◌≡◌, ◌∙◌, ap, mod-lt, arith, of_z, to_z}
+use Rattle.std.proofs.Common.{◌-◌, ◌*◌, ◌%◌, ◌^◌, ◌∙◌, ap, mod-lt, arith, of_z, to_z}
 use mir.Syntax.{w64}
 use lib.Signed.{shr_z}
 use Rattle.word.proofs.Machine.{shift_is, extend_by_shift}

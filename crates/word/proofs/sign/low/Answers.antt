@@ -1,5 +1,5 @@
 -- `word::sign::low` meets its contract: the digits below the top ones that were shifted out.
-use Rattle.std.proofs.Common.{◌+◌, ◌-◌, ◌*◌, ◌^◌, ◌≡◌, ◌∙◌, sym, ap, ◌%◌, arith}
+use Rattle.std.proofs.Common.{◌+◌, ◌-◌, ◌*◌, ◌^◌, ◌≡◌, ◌∙◌, ap, ◌%◌, arith}
 use lib.Pow.{field, shl-shr}
 use Rattle.word.proofs.sign.low.Goals as goal
 
