@@ -29,7 +29,7 @@ use address::Virtual;
 use address_place::Place;
 use address_place::steps::fetch;
 use csr_setting::Setting;
-use csr_words::{COUNT, ELP, PC, setting, sized};
+use csr_words::{COUNT, ELP, PC, setting};
 use decode::{plain, privileged};
 use run_form::{Form, Op};
 use run_pages::COUNT as PAGES;
@@ -338,7 +338,6 @@ pub fn fast(
     ensures { Midway (run_from Fetch budget (hart x.old w.old) mem.old map.now) budget
         result Fetch (hart x.new w.new) mem.new map.now }
 {
-    sized(*w);
     let pc = w[PC];
     if open(w[ELP], x[0], pc) {
         let s = setting::setting(w);

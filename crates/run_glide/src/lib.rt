@@ -13,7 +13,7 @@ ghost use Rattle.run_turn.specs.Glide.{Straight, Fetches, Turned, Glides};
 
 use address_place::window;
 use address_place::window::Window;
-use csr_words::{COUNT, ELP, PC, sized};
+use csr_words::{COUNT, ELP, PC};
 use run_done::Tried;
 use run_quick::opcodes;
 use run_turn::Glided;
@@ -158,7 +158,6 @@ pub fn glide(
         source (hart x.new w.new) mem.new map.now }
     ensures setting { setting_of w.new ≡ setting_of w.old }
 {
-    sized(*w);
     if waits(source, w[ELP]) {
         return budget;
     }
