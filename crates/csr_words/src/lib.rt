@@ -2,7 +2,7 @@
 // what the mode and CSRs say about an instruction, trap entry, the returns, and refusal 1. The order is that of include/sporhulma.h.
 #![tactic(auto)]
 
-ghost use Rattle.std.specs.Prelude.{◌≡◌, ◌<◌, length};
+ghost use Rattle.std.specs.Prelude.{◌≡◌, ◌<◌};
 ghost use Rattle.csr_words.specs.Words.{COUNT, csr_slot_of};
 
 use csr::Csr;
@@ -80,8 +80,3 @@ pub fn slot(n: Csr) -> usize
         Csr::Mseccfg => MSECCFG,
     }
 }
-
-// The checker knows an array's length where it is passed by value, and not behind a reference. Nothing is left of this when it is compiled.
-pub fn sized(w: [u64; COUNT])
-    ensures { length w ≡ COUNT }
-{}

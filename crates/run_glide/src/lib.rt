@@ -13,7 +13,7 @@ ghost use Rattle.run_turn.specs.Glide.{Straight, Fetches, TurnTaken, Glides};
 
 use address_place::window;
 use address_place::window::Window;
-use csr_words::{COUNT, ELP, PC, sized};
+use csr_words::{COUNT, ELP, PC};
 use run_quick::opcodes;
 use run_turn::Glided;
 use step_meaning::{Context, Source};
@@ -144,7 +144,6 @@ pub fn glide(
         source (hart x.new w.new) mem.new map.now }
     ensures setting { setting_of w.new ≡ setting_of w.old }
 {
-    sized(*w);
     if waits(source, w[ELP]) {
         return budget;
     }
