@@ -47,10 +47,7 @@ pub fn step_refusal(x: &[u64; 32], w: &[u64; COUNT], mem: &[u8], map: &[u64]) ->
     if memory::refused(mem.len() as u64) {
         return Some(Refusal::Memory);
     }
-    if map::refused(map) {
-        return Some(Refusal::Map);
-    }
-    None
+    map::refused(map).then_some(Refusal::Map)
 }
 
 // The largest budget that a run may have.
