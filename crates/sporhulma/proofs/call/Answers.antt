@@ -1,12 +1,20 @@
 -- `sporhulma::call` meets its contract: where no refusal applies the run's words, else those that were given. Assumes nothing.
 use borrow.Author.Tests.{ne_eqb}
-use mathlib.Core.Path.{refl, sym, ap, ◌∙◌}
+use mathlib.Core.Bool.{Bool, true, false}
+use mathlib.Core.Path.{◌≡◌, refl, sym, ap, ◌∙◌}
+use mir.Val.{bool_byte}
+use Rattle.csr_words.specs.Words.{flag_of}
 use Rattle.step_hart.specs.Hart.{hart}
 use Rattle.step_hart.specs.Run.{Run, run_from}
 use Rattle.step_hart.specs.declared.Hart.{Hart}
 use Rattle.run_call.proofs.Accepted.{small, run_no_refusal}
 use Rattle.sporhulma.proofs.Answered.{taken, refused, told}
 use Rattle.sporhulma.proofs.call.Goals as goal
+
+-- what `u64::from` makes of a bool
+as_flag : (b : Bool) → bool_byte b ≡ flag_of b
+as_flag true = refl
+as_flag false = refl
 
 pub run-t-requires : goal.run-t-requires
 run-t-requires c =
@@ -23,7 +31,7 @@ returns-then-n-eq0 c =
       registers = ap (λ (h : Hart). h.x) ran.hart;
       others = ap (λ (h : Hart). h.words) ran.hart;
       memory = ran.memory;
-      answer = told run c.run-t.result c.from.result ran.answer c.from.ensures;
+      answer = told run c.run-t.result c.from.result ran.answer (c.from.ensures ∙ as_flag c.run-t.result.trapped);
     }
 
 pub returns : goal.returns
