@@ -1,5 +1,6 @@
 // What a mode and the words of the CSRs switch on: the enables, and the regime of accesses, which translation needs to know; which
-// CSR an address names there; and which numbers are a mode. All take numbers, so that a step need not pass its hart.
+// CSR an address names there; and which numbers are a mode. All take numbers, so that a step need not pass its hart; a struct
+// of them would be filled at each of its two callers, from the array of names that stands above.
 #![tactic(auto)]
 
 pub mod legal;

@@ -1,4 +1,4 @@
-// mstatus after a return, and the mode that a return goes to.
+// mstatus after a return, and the mode that a return goes to. Two functions each, since MRET and SRET differ in fields and in no constant.
 ghost use Rattle.std.specs.Prelude.{◌≡◌};
 ghost use Rattle.csr_trap.specs.Return.{leave_m_of, leave_s, mpp_mode_of, spp_mode_of};
 

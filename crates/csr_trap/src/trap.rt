@@ -1,4 +1,4 @@
-// mstatus after a trap.
+// mstatus after a trap. A function for M and one for S, since they differ in fields and in no constant.
 ghost use Rattle.std.specs.Prelude.{◌≡◌};
 ghost use Rattle.csr_trap.specs.Trap.{enter_m_of, enter_s};
 
