@@ -1,5 +1,5 @@
-// The instructions that move words between registers and memory, on the quick way (crate `run_quick`). An instruction that was done says where pc goes on; left
-// undone, it says `None` and changes nothing: the slow path does it.
+// The instructions that move words between registers and memory, on the quick way (crate `run_quick`). An instruction that was done says
+// where pc goes on; left undone, it says `None` and changes nothing: the slow path does it.
 #![tactic(auto)]
 
 ghost use Rattle.std.specs.Prelude.{Some, ◌≡◌};

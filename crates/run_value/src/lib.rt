@@ -1,6 +1,6 @@
 // What the words of OP, OP-IMM and their word forms write, from the values of their operands: the decoder's rows, and what each of them
-// computes, in one match, or `None` where its table has no such row. A match on what another match gave is a second jump, unless the compiler joins the two; it did while
-// there were ten operations, and does not with twenty-five (docs/SPEED.md).
+// computes, in one match; `None` where a table has no such row. A match on what another match gave is a second jump, unless the compiler
+// joins the two; it did while there were ten operations, and does not with twenty-five (docs/SPEED.md).
 #![tactic(auto)]
 
 ghost use Rattle.std.specs.Prelude.{ℕ};
