@@ -69,7 +69,7 @@ fn accessed_dirty(writes: bool, l: Leaf) -> bool
     l.a && (!writes || l.d)
 }
 
-// The tests of steps 5 to 8 in their order: the first that fails decides.
+// The tests of steps 5 to 8 in their order: the first that fails decides. Six bools, so that each rule is a test of its own, and their order is here alone.
 fn decide(
     valid: bool,
     user: bool,

@@ -91,6 +91,7 @@ fn plain(k: Kind, w: Width, t: Virtual, len: u64) -> Result<Physical, Exception>
 {
     if kinds::is_shadow(k) {
         return Err(Exception {
+            // step 4's own number (docs/HART.md, 7.4), whatever the kind
             cause: 7,
             tval: t.0,
         });

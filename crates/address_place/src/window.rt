@@ -18,7 +18,7 @@ pub struct Window {
     pub at: u64,
 }
 
-// No address.
+// No address. An empty window and no Option: that would be asked in every step.
 fn closed() -> Window
     ensures { (c : declared.Control) (map : List ℕ) (len : ℕ) → Shows result c map len }
 {

@@ -102,6 +102,7 @@ fn access(a: Access, rd: u8, rs1: u8, rs2: u8, offset: u64) -> Eight
     }
 }
 
+// A function and no `From`: read where it is called, it says what the numbers are of.
 pub fn of_instruction(i: Instruction) -> Eight
     ensures { result ≡ numbers_of i }
 {

@@ -15,6 +15,7 @@ pub enum RecordType {
     StartAddress,
 }
 
+// `of` answers an Option and no TryFrom: its one caller asks for no reason.
 impl RecordType {
     fn of(number: u8) -> Option<RecordType>
         ensures { result ≡ record_type_at number }

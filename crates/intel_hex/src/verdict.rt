@@ -14,6 +14,7 @@ pub fn judge(table: &Table, text: &[u8], len: usize) -> Result<Option<u64>, Refu
 {
     let mut upper = 0;
     let mut start = None;
+    // counted here: a line knows only where the rest begins, and the rest is asked for behind it
     let mut n = 1;
     let mut rest = text;
     while !rest.is_empty() {

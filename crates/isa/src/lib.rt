@@ -62,6 +62,7 @@ pub enum Mode {
 // What mcause and mtval get of an exception.
 #[derive(Clone, Copy)]
 pub struct Exception {
+    // mcause's number and no enum: medeleg has a bit for each, and a host reads the number
     pub cause: u8,
     pub tval: u64,
 }

@@ -50,6 +50,7 @@ fn short(
     let mut from = source;
     let mut left = budget;
     let mut k = known(w);
+    // no `for`: a turn takes as many steps as it takes
     while 0 < left {
         left = run_glide::glide(x, w, from, k, mem, map, left);
         if left == 0 {
@@ -107,6 +108,7 @@ fn long(x: &mut [u64; 32], w: &mut [u64; COUNT], mem: &mut [u8], map: &[u64], bu
     let mut left = run_fast::fast(x, w, mem, map, budget);
     let mut steps = budget - left;
     let mut wait = 0;
+    // no `for`, as above
     while 0 < left {
         wait = pause(steps, wait);
         let n = left.min(wait);

@@ -13,7 +13,8 @@ pub struct Context {
     pub flat: bool,
 }
 
-// Where a step takes its word from: it fetches at pc, or a word is given as if it had been fetched there.
+// Where a step takes its word from: it fetches at pc, or a word is given as if it had been fetched there. Two sources, and no Option: None would not say
+// that a word is fetched.
 #[derive(Clone, Copy)]
 pub enum Source {
     Fetch,

@@ -20,6 +20,11 @@ const MEMORY: usize = 1_052_672;
 
 const TEXT: usize = 1440;
 
+// The number at a place of a line; one that the line does not have is 0.
+fn number(given: &[u64], at: usize) -> u64 {
+    given.get(at).copied().unwrap_or(0)
+}
+
 // A number of bytes that may be so many.
 fn counted(bytes: u64, most: usize) -> Result<usize, CaseError>
     ensures { IfOk result (λ count. count ≤ most) }
@@ -44,11 +49,9 @@ fn unpacked(alloc: Global, packed: &[u64], count: usize) -> Result<Vec<u8>, Allo
 pub fn run(alloc: Global, given: &[u64]) -> Result<Vec<u64>, CaseError>
     ensures { IfOk result (λ numbers. vec_len numbers ≤ most) }
 {
-    let [len, bytes, packed @ ..] = given else {
-        return Err(CaseError::Given);
-    };
-    let text = unpacked(alloc, packed, counted(*bytes, TEXT)?)?;
-    let mut mem = vec![in alloc; FILLING; counted(*len, MEMORY)?]?;
+    let packed = given.get(2..).unwrap_or(&[]);
+    let text = unpacked(alloc, packed, counted(number(given, 1), TEXT)?)?;
+    let mut mem = vec![in alloc; FILLING; counted(number(given, 0), MEMORY)?]?;
     let answer = match intel_hex::load(&text, &mut mem) {
         Ok(Some(start)) => [0, 0, 1, start],
         Ok(None) => [0; 4],

@@ -27,7 +27,7 @@ pub fn fill(mem: &mut [u8], pairs: &[u64]) -> Option<()>
     Some(())
 }
 
-// So many entries of a map, a page and a leaf each: the first has this page and this leaf.
+// So many entries of a map, a page and a leaf each: the first has this page and this leaf. A `for`: with `flat_map` the length stayed unproved.
 pub fn rising(alloc: Global, entries: u64, page: u64, leaf: u64) -> Result<Vec<u64>, AllocError>
     ensures { IfOk result (λ map. vec_len map ≡ entries + entries) }
 {

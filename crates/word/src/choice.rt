@@ -1,18 +1,6 @@
-// Tests put together, and a choice between an old and a new value.
-ghost use Rattle.std.specs.Prelude.{◌≡◌, ◌<◌, ◌&&◌, ◌||◌};
+// A choice between an old and a new value.
+ghost use Rattle.std.specs.Prelude.{◌≡◌, ◌<◌};
 ghost use Rattle.word.specs.Choice.{pick};
-
-pub fn both(a: bool, b: bool) -> bool
-    ensures { result ≡ (a && b) }
-{
-    a && b
-}
-
-pub fn either(a: bool, b: bool) -> bool
-    ensures { result ≡ (a || b) }
-{
-    a || b
-}
 
 // A field's new value: what is written where the field can hold it, else the old one. Both are below `below`.
 pub fn taken(ok: bool, v: u64, old: u64, below: u64) -> u64

@@ -2,7 +2,7 @@
 // sums, order, shifts and logic on 64 and 32 bits. Nothing here knows an instruction.
 #![tactic(auto)]
 
-// Tests put together, and a choice between an old and a new value.
+// A choice between an old and a new value.
 pub mod choice;
 // The fields of an instruction word.
 pub mod field;
