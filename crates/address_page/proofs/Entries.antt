@@ -9,7 +9,7 @@ use native.Mathlib.Numerals.{add-one}
 use native.Mathlib.Omega.{arith}
 use lib.Dec.{eqb, leb, ltb}
 use lib.ListN.{length, get_or, drop, length-drop}
-use lib.Seq.{drop-cons}
+use lib.Seq.{drop-cons, get_or-take, get_or-drop}
 use borrow.Author.Tests.{eq-eqb, ne_eqb, le-leb, lt-leb, lt-ltb, le-ltb, eqb-true, eqb-false, ltb-false, leb-false}
 use Rattle.word.proofs.Bools.{neither}
 use Rattle.word.proofs.Either.{either}
@@ -42,6 +42,12 @@ module _ (map : List ℕ) (i p : ℕ) where
   pub lookup_miss : i + 2 ≤ length map → (get_or map i 0 ≡ p → ⊥) → lookup_of (drop i map) p ≡ lookup_of (drop (i + 2) map) p
   unfolding lookup_of
   lookup_miss h e = rw (two map i h, ne_eqb (get_or map i 0) p e)
+
+-- lookup, behind the loop: what is left answers for the map
+pub lookup_rest : (map rest : List ℕ) (i p : ℕ) → rest ≡ drop (length map / 4 * 4) map → 4 * i ≡ length map / 4 * 4
+    → lookup_of map p ≡ lookup_of (drop (4 * i) map) p
+    → lookup_of map p ≡ lookup_of rest p
+lookup_rest map rest i p r n e = rw (r, sym n) e
 
 -- two words an entry
 double : (i : ℕ) → 2 * suc i ≡ suc (suc (2 * i))
@@ -152,16 +158,19 @@ pub record EntryAt (map : List ℕ) (entries : List (List ℕ)) (i : ℕ) : Type
   pub number : get_or (get_or entries i []) 0 0 ≡ get_or map (2 * i) 0
   pub word : get_or (get_or entries i []) 1 0 ≡ get_or map (2 * i + 1) 0
 
+-- word j of chunk i is word w of the map, where it is taken n words by n words
+word_from : (n k i j w : ℕ) (map : List ℕ) → i < k → j < n → w ≡ n * i + j → get_or (get_or (first_chunks n k map) i []) j 0 ≡ get_or map w 0
+word_from n zero i j w map h l e = absurd (omega arith)
+word_from n (suc k) zero j w map h l e =
+    let o : w ≡ j = omega arith in
+    rw o (get_or-take n map j 0 l)
+word_from n (suc k) (suc i) j w map h l e =
+    let o : w ≡ n + (n * i + j) = omega arith in
+    rw o (word_from n k i j (n * i + j) (drop n map) (omega arith) l refl ∙ get_or-drop n map (n * i + j) 0)
+
 words_from : (n i : ℕ) (map : List ℕ) → i < n → 2 * n ≤ length map
     → (get_or (get_or (first_chunks 2 n map) i []) 0 0 ≡ get_or map (2 * i) 0) × (get_or (get_or (first_chunks 2 n map) i []) 1 0 ≡ get_or map (2 * i + 1) 0)
-words_from zero i map h p = absurd (omega arith)
-words_from (suc n) i [] h p = absurd (omega arith)
-words_from (suc n) i (k ∷ []) h p = absurd (omega arith)
-words_from (suc n) zero (k ∷ e ∷ rest) h p = (refl, refl)
-words_from (suc n) (suc i) (k ∷ e ∷ rest) h p =
-    let o : 2 * suc i + 1 ≡ suc (suc (2 * i + 1)) = omega arith in
-    let (a, b) = words_from n i rest (omega arith) (omega arith) in
-    (rw (double i) a, rw o b)
+words_from n i map h p = (word_from 2 n i 0 (2 * i) map h (omega arith) (omega arith), word_from 2 n i 1 (2 * i + 1) map h (omega arith) refl)
 
 pub entry_at : (map : List ℕ) (entries : List (List ℕ)) → entries ≡ first_chunks 2 (length map / 2) map → length entries ≡ length map / 2
     → (i : ℕ) → i < length entries
@@ -169,6 +178,28 @@ pub entry_at : (map : List ℕ) (entries : List (List ℕ)) → entries ≡ firs
 entry_at map entries e l i h =
     let (a, b) = words_from (length map / 2) i map (omega arith) (omega arith) in
     record { inside = omega arith; number = rw e a; word = rw e b }
+
+-- two entries' four words, where the map is taken two entries by two entries
+pub record PairAt (map : List ℕ) (pairs : List (List ℕ)) (i : ℕ) : Type 0 where
+  pub inside : 4 * i + 4 ≤ length map
+  pub first : get_or (get_or pairs i []) 0 0 ≡ get_or map (4 * i) 0
+  pub first_leaf : get_or (get_or pairs i []) 1 0 ≡ get_or map (4 * i + 1) 0
+  pub second : get_or (get_or pairs i []) 2 0 ≡ get_or map (4 * i + 2) 0
+  pub second_leaf : get_or (get_or pairs i []) 3 0 ≡ get_or map (4 * i + 2 + 1) 0
+
+pub pair_at : (map : List ℕ) (pairs : List (List ℕ)) → pairs ≡ first_chunks 4 (length map / 4) map → length pairs ≡ length map / 4
+    → (i : ℕ) → i < length pairs
+    → PairAt map pairs i
+pair_at map pairs e l i h =
+    let word : (j w : ℕ) → j < 4 → w ≡ 4 * i + j → get_or (get_or pairs i []) j 0 ≡ get_or map w 0 =
+    λ j w b o. rw e (word_from 4 (length map / 4) i j w map (omega arith) b o) in
+    record {
+      inside = omega arith;
+      first = word 0 (4 * i) (omega arith) (omega arith);
+      first_leaf = word 1 (4 * i + 1) (omega arith) refl;
+      second = word 2 (4 * i + 2) (omega arith) refl;
+      second_leaf = word 3 (4 * i + 2 + 1) (omega arith) (omega arith);
+    }
 
 -- a map of no entry is accepted
 pub empty_accepted : map_refused_of [] ≡ false
