@@ -59,12 +59,12 @@ pub enum Mode {
     Machine,
 }
 
-// What mcause and mtval get of an exception.
+// What mcause and mtval get of an exception. tval stands first, so that it lies where a place's address does (docs/SPEED.md, "Enums that stay in memory").
 #[derive(Clone, Copy)]
 pub struct Exception {
+    pub tval: u64,
     // mcause's number and no enum: medeleg has a bit for each, and a host reads the number
     pub cause: u8,
-    pub tval: u64,
 }
 
 // When a branch is taken.
