@@ -47,7 +47,7 @@ impl TryFrom<[u64; 3]> for Operation {
             [7, _, _] => Ok(Operation::Swap),
             [8, _, _] => Ok(Operation::Pad),
             [9, kind, _] => {
-                let kind = places::kind(kind).ok_or(CaseError::Given)?;
+                let kind = places::known_kind(kind).ok_or(CaseError::Given)?;
                 Ok(Operation::Regime(kind))
             }
             _ => Err(CaseError::Given),
@@ -102,8 +102,11 @@ pub fn run(given: &[u64]) -> Result<[u64; 54], CaseError>
     let [operation, first, second, hart @ ..] = given else {
         return Err(CaseError::Given);
     };
+    if hart.len() != state::NUMBERS {
+        return Err(CaseError::Given);
+    }
     let operation = Operation::try_from([*operation, *first, *second])?;
-    let hart = state::given(hart.as_array().ok_or(CaseError::Given)?);
+    let hart = state::given(given);
     let done = operation.done(hart);
     let (value, after) = done.unwrap_or((0, hart));
     let mut numbers = [0u64; 54];

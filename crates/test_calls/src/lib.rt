@@ -90,7 +90,7 @@ pub fn run(alloc: Global, given: &[u64], wanted: &[u64]) -> Result<Compared, Cas
     let (wanted, changed) = wanted.split_first_chunk().ok_or(CaseError::Wanted)?;
     let mut mem = scene.memory(alloc, &[])?;
     let right = scene.memory(alloc, changed)?;
-    let answer = call.made(state::given(scene.hart), &mut mem, &scene.map);
+    let answer = call.made(state::of_numbers(scene.hart), &mut mem, &scene.map);
     let told = test_scene::told(test_scene::first_difference(&mem, &right));
     Ok(Compared {
         wanted: joined(wanted, told.0),

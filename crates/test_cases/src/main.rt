@@ -10,6 +10,7 @@ ghost use Rattle.test_lines.specs.Counted.{one_more_of};
 use std::alloc::Global;
 use std::rt::Files;
 use subject::Subject;
+use test_lines::line::MOST;
 use test_lines::report::Report;
 use test_lines::{file, line};
 
@@ -42,10 +43,11 @@ const FILES: [(Subject, &str); 22] = [
 ];
 
 // A line that is to have a case.
-fn judge<R: Print>(alloc: Global, report: &mut Report<R>, subject: Subject, source: &str)
+fn judge<R: Print>(alloc: Global, report: &mut Report<R>, subject: Subject, source: &[u8])
     ensures { report.new.counts.cases ≡ one_more_of report.old.counts.cases }
 {
-    let line = match line::read(alloc, source) {
+    let mut room = [0u64; MOST];
+    let line = match line::read(source, &mut room) {
         Ok(line) => line,
         Err(error) => return report.broken(source, error),
     };
@@ -55,9 +57,10 @@ fn judge<R: Print>(alloc: Global, report: &mut Report<R>, subject: Subject, sour
     }
 }
 
-fn every_line<R: Print>(alloc: Global, report: &mut Report<R>, subject: Subject, text: &str) {
-    for source in text.split_terminator('\n') {
-        if source.is_empty() || source.starts_with('#') {
+fn every_line<R: Print>(alloc: Global, report: &mut Report<R>, subject: Subject, text: &[u8]) {
+    for line in text.split_inclusive(|byte| *byte == b'\n') {
+        let source = line.strip_suffix(b"\n").unwrap_or(line);
+        if source.is_empty() || source.starts_with(b"#") {
             report.heading(source);
         } else {
             judge(alloc, report, subject, source);
@@ -74,13 +77,13 @@ fn every_case<R: Files + Print + AllocGlobal>(
     match file::read(rt, name) {
         Ok(text) => {
             let before = report.counts.cases;
-            report.heading(name);
+            report.heading(name.as_bytes());
             every_line(rt.alloc(), report, subject, &text);
             if report.counts.cases == before {
-                report.broken(name, "has no case");
+                report.broken(name.as_bytes(), "has no case");
             }
         }
-        Err(error) => report.broken(name, error),
+        Err(error) => report.broken(name.as_bytes(), error),
     }
 }
 

@@ -30,6 +30,11 @@ pub enum Subject {
     Call,
 }
 
+// Fifteen numbers without a name. The names of a hart's numbers were once one text with a blank behind each name, and it went over a line of the source:
+// the last name before the line's end had the line feed in it, and of the sixteen blanks that the next line began with, all but the first ended an empty
+// name. So the numbers behind have the names of earlier ones. What a failed case prints stays as it was: docs/DECISIONS.md, "What a failed case prints".
+const GAP: [&str; 15] = [""; 15];
+
 // What came of a case, and what is to come of it.
 #[derive(Drop)]
 pub struct Came {
@@ -46,7 +51,7 @@ fn listed<const N: usize>(alloc: Global, came: Option<[u64; N]>) -> Result<Vec<u
 fn called(alloc: Global, line: &Line) -> Result<Came, CaseError>
     ensures { IfOk result (λ came. vec_len came.wanted ≡ vec_len came.got) }
 {
-    let compared = test_calls::run(alloc, &line.given, &line.wanted)?;
+    let compared = test_calls::run(alloc, line.given, line.wanted)?;
     Ok(Came {
         wanted: compared.wanted.to_vec(alloc)?,
         got: compared.got.to_vec(alloc)?,
@@ -58,7 +63,7 @@ impl Subject {
     pub fn came(self, alloc: Global, line: &Line) -> Result<Came, CaseError>
         ensures { IfOk result (λ came. vec_len came.wanted ≡ vec_len came.got) }
     {
-        let given = line.given.as_slice();
+        let given = line.given;
         let got = match self {
             Subject::Decode => listed(alloc, test_decoded::run(given))?,
             Subject::Mask => listed(alloc, mask::run(given))?,
@@ -73,7 +78,7 @@ impl Subject {
             return Err(CaseError::Wanted);
         }
         Ok(Came {
-            wanted: line.wanted.clone()?,
+            wanted: line.wanted.to_vec(alloc)?,
             got,
         })
     }
@@ -87,13 +92,27 @@ impl Subject {
         match self {
             Subject::Call => {
                 let before = ["refusal", "count", "trapped", "cause", "pc"];
-                let memory = ["wrong-in-memory-at", "there"];
-                let names = [&before[..], &REGISTERS, &WORDS, &memory];
+                let names = [
+                    &before[..],
+                    &REGISTERS[..27],
+                    &["x27\n"],
+                    &GAP,
+                    &REGISTERS[28..],
+                    &WORDS,
+                ];
                 report.compared(line, &names, wanted, got);
             }
             Subject::Hart => {
                 let before = ["illegal-or-refused", "value", "pc"];
-                report.compared(line, &[&before[..], &REGISTERS, &WORDS], wanted, got);
+                let names = [
+                    &before[..],
+                    &REGISTERS[..28],
+                    &["x28\n"],
+                    &GAP,
+                    &REGISTERS[29..],
+                    &WORDS,
+                ];
+                report.compared(line, &names, wanted, got);
             }
             _ => report.judged(line, wanted, got),
         }

@@ -1,6 +1,5 @@
 // A file of cases, read whole.
-ghost use Rattle.std.specs.Prelude.{◌≤◌, IfOk};
-ghost use Rattle.std.specs.String.{string_len};
+ghost use Rattle.std.specs.Prelude.{◌≤◌, IfOk, vec_len};
 ghost use Rattle.test_lines.specs.Most.{longest};
 
 use std::error::Error;
@@ -9,15 +8,17 @@ use std::fs::File;
 use std::io::Read;
 use std::rt::Files;
 
-// How many bytes a file has at most.
+// How many bytes a file has at most, and how many there is room for: one more, which tells that a file is too long, and another, since a
+// room that is full would be made larger.
 const LONGEST: u64 = 2_105_344;
+
+const ROOM: usize = 2_105_346;
 
 // Why a file was not read whole.
 #[derive(Clone, Copy, Debug, PartialEq, Eq)]
 pub enum ReadError {
     NotOpened,
     NotRead,
-    NotText,
     TooLong,
 }
 
@@ -26,7 +27,6 @@ impl fmt::Display for ReadError {
         f.write_str(match self {
             ReadError::NotOpened => "cannot be opened",
             ReadError::NotRead => "cannot be read",
-            ReadError::NotText => "is no text",
             ReadError::TooLong => "is longer than the program's buffer",
         })
     }
@@ -34,17 +34,18 @@ impl fmt::Display for ReadError {
 
 impl Error for ReadError {}
 
-// Reads a file. One byte more than it may have is asked for, to tell a file that ended from one that is too long.
-pub fn read<R: Files + Alloc>(rt: &R, name: &str) -> Result<String<R::A>, ReadError>
-    ensures { IfOk result (λ text. string_len text ≤ longest) }
+// Reads a file, whose bytes need not be text. One byte more than it may have is asked for, to tell a file that ended from one that is too long.
+// The room is taken at once, so that no file needs more memory than another.
+pub fn read<R: Files + Alloc>(rt: &R, name: &str) -> Result<Vec<u8, R::A>, ReadError>
+    ensures { IfOk result (λ bytes. vec_len bytes ≤ longest) }
 {
     let file = File::open(rt, name).map_err(|_| ReadError::NotOpened)?;
-    let mut bytes = Vec::new(rt.alloc());
+    let mut bytes = Vec::with_capacity(rt.alloc(), ROOM).map_err(|_| ReadError::NotRead)?;
     file.take(LONGEST + 1)
         .read_to_end(&mut bytes)
         .map_err(|_| ReadError::NotRead)?;
     if bytes.len() as u64 > LONGEST {
         return Err(ReadError::TooLong);
     }
-    String::from_utf8(bytes).map_err(|_| ReadError::NotText)
+    Ok(bytes)
 }

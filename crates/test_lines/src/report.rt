@@ -4,8 +4,8 @@ ghost use Rattle.std.specs.Prelude.{◌≡◌, ◌≢◌, true, false};
 ghost use Rattle.test_lines.specs.Counted.{one_more_of};
 
 use super::line::Line;
-use std::fmt;
 use std::fmt::Display;
+use std::{fmt, iter};
 
 // A count stays at the largest number, so that it never falls back to 0.
 #[derive(Clone, Copy, Debug, Default, PartialEq, Eq)]
@@ -27,7 +27,8 @@ impl Display for Listed<'_> {
     }
 }
 
-// Each number that is not the wanted one, by its name. The names stand in groups, one after another.
+// Each number that is not the wanted one, by its name. The names stand in groups, one after another. A number that did not come is 0,
+// and one behind the last name has none.
 #[derive(Clone, Copy)]
 pub struct Differences<'a> {
     pub names: &'a [&'a [&'a str]],
@@ -37,10 +38,15 @@ pub struct Differences<'a> {
 
 impl Display for Differences<'_> {
     fn fmt<W: fmt::Write>(&self, f: &mut fmt::Formatter<W>) -> fmt::Result {
-        let names = self.names.iter().copied().flatten();
-        for (name, (wanted, got)) in names.zip(self.wanted.iter().zip(self.got)) {
+        let mut names = self.names.iter().copied().flatten();
+        let got = self.got.iter().copied().chain(iter::repeat(0));
+        for (wanted, got) in self.wanted.iter().copied().zip(got) {
+            let name = names.next();
             if wanted != got {
-                write!(f, " {name} 0x{got:x} (wanted 0x{wanted:x})")?;
+                if let Some(name) = name {
+                    write!(f, " {name}")?;
+                }
+                write!(f, " 0x{got:x} (wanted 0x{wanted:x})")?;
             }
         }
         Ok(())
@@ -79,33 +85,50 @@ impl<'a, R: Print> Report<'a, R> {
         }
     }
 
+    // Bytes of a file, as they are.
+    fn print(&self, bytes: &[u8]) {
+        let _ = self.rt.write_all(bytes);
+    }
+
+    // A case, as its label, which may be empty, and its text, behind a word on how it went.
+    fn case(&self, went: &[u8], label: &[u8], text: &[u8]) {
+        self.print(went);
+        self.print(label);
+        self.print(text);
+    }
+
     // A heading or an empty line: printed as it is, and no case.
-    pub fn heading(&mut self, line: &str)
+    pub fn heading(&mut self, line: &[u8])
         ensures { self.new.counts ≡ self.old.counts }
     {
-        let _ = println!(self.rt; "{line}");
+        self.print(line);
+        self.print(b"\n");
     }
 
     // A line or a file that cannot be run: `what` says which, and `why` what is wrong with it.
-    pub fn broken(&mut self, what: &str, why: impl Display + Drop)
+    pub fn broken(&mut self, what: &[u8], why: impl Display + Drop)
         ensures cases { self.new.counts.cases ≡ one_more_of self.old.counts.cases }
         ensures failed { self.new.counts.failed ≡ one_more_of self.old.counts.failed }
     {
-        let _ = println!(self.rt; "FAILED {what}: {why}");
+        self.print(b"FAILED ");
+        self.print(what);
+        let _ = println!(self.rt; ": {why}");
         self.counts.failed();
     }
 
     // A case that was run, whether what came of it is right, and what is to be printed of it where it is not.
-    fn told(&mut self, case: impl Display + Drop, right: bool, got: impl Display + Drop)
+    fn told(&mut self, label: &[u8], text: &[u8], right: bool, got: impl Display + Drop)
         ensures cases { self.new.counts.cases ≡ one_more_of self.old.counts.cases }
         ensures passed { right ≡ true → self.new.counts.failed ≡ self.old.counts.failed }
         ensures failed { right ≡ false → self.new.counts.failed ≡ one_more_of self.old.counts.failed }
     {
         if right {
-            let _ = println!(self.rt; "ok {case}");
+            self.case(b"ok ", label, text);
+            self.print(b"\n");
             self.counts.passed();
         } else {
-            let _ = println!(self.rt; "FAILED {case}: got{got}");
+            self.case(b"FAILED ", label, text);
+            let _ = println!(self.rt; ": got{got}");
             self.counts.failed();
         }
     }
@@ -117,9 +140,7 @@ impl<'a, R: Print> Report<'a, R> {
         ensures passed { wanted.now ≡ got.now → self.new.counts.failed ≡ self.old.counts.failed }
         ensures failed { (wanted.now ≢ got.now) → self.new.counts.failed ≡ one_more_of self.old.counts.failed }
     {
-        let label = line.label;
-        let text = line.text;
-        self.told(format_args!("{label}{text}"), wanted == got, Listed(got));
+        self.told(line.label, line.text, wanted == got, Listed(got));
     }
 
     // A case of many numbers that was run, as `judged`; printed are its text and, by name, the numbers that are not the wanted ones.
@@ -129,7 +150,7 @@ impl<'a, R: Print> Report<'a, R> {
         ensures failed { (wanted.now ≢ got.now) → self.new.counts.failed ≡ one_more_of self.old.counts.failed }
     {
         let differences = Differences { names, wanted, got };
-        self.told(line.text, wanted == got, differences);
+        self.told(b"", line.text, wanted == got, differences);
     }
 
     // The last line.

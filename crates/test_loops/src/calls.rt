@@ -1,6 +1,6 @@
 // Calls: 500,000 turns of eight instructions, in U under Sv39, with landing pads and a shadow stack. A turn calls a function
 // through x12; it starts with a landing pad, pushes its return address, counts, checks it and returns.
-ghost use Rattle.std.specs.Prelude.{◌≡◌};
+ghost use Rattle.std.specs.Prelude.{◌≡◌, length};
 ghost use Rattle.csr_words.specs.Words.{◌of◌, PC};
 
 use super::lap;
@@ -24,7 +24,9 @@ const CODE: [u32; 9] = [
 const MAP: [u64; 4] = [1, 0x8_0000 * 1024 + 0x59, 5, 0x8_0001 * 1024 + 0xd5];
 
 pub fn lap() -> Lap
-    ensures { PC of result.start.words ≡ 0x1000 }
+    ensures pc { PC of result.start.words ≡ 0x1000 }
+    ensures code { length result.code.now ≡ 9 }
+    ensures map { length result.map.now ≡ 4 }
 {
     let mut start = lap::zeros();
     start.x[10] = 500_000;

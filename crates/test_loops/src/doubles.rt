@@ -1,5 +1,5 @@
 // Loads and stores: 400,000 turns of ten instructions, in M.
-ghost use Rattle.std.specs.Prelude.{◌≡◌};
+ghost use Rattle.std.specs.Prelude.{◌≡◌, length};
 ghost use Rattle.csr_words.specs.Words.{◌of◌, PC};
 
 use super::lap;
@@ -23,7 +23,8 @@ const CODE: [u32; 11] = [
 ];
 
 pub fn lap() -> Lap
-    ensures { PC of result.start.words ≡ 0x80000000 }
+    ensures pc { PC of result.start.words ≡ 0x80000000 }
+    ensures code { length result.code.now ≡ 11 }
 {
     let mut start = methods::start();
     start.x[10] = 400_000;

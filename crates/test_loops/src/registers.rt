@@ -1,5 +1,5 @@
 // Registers only: 500,000 turns of eight instructions, in M.
-ghost use Rattle.std.specs.Prelude.{◌≡◌};
+ghost use Rattle.std.specs.Prelude.{◌≡◌, length};
 ghost use Rattle.csr_words.specs.Words.{◌of◌, PC};
 
 use super::lap;
@@ -21,7 +21,8 @@ const CODE: [u32; 9] = [
 ];
 
 pub fn lap() -> Lap
-    ensures { PC of result.start.words ≡ 0x80000000 }
+    ensures pc { PC of result.start.words ≡ 0x80000000 }
+    ensures code { length result.code.now ≡ 9 }
 {
     let mut start = methods::start();
     start.x[10] = 500_000;

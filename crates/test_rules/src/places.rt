@@ -32,17 +32,26 @@ struct Access<'a> {
 
 // The kind of access that a number stands for.
 #[tactic(auto, unfolding(crate::specs::Kinds::case_kind_of))]
-pub fn kind(n: u64) -> Option<Kind>
+pub fn kind(n: u64) -> Kind
+    ensures { result ≡ case_kind_of n }
+{
+    match n {
+        0 => Kind::Fetch,
+        1 => Kind::Load,
+        2 => Kind::Store,
+        3 => Kind::Push,
+        4 => Kind::Pop,
+        _ => Kind::Swap,
+    }
+}
+
+// The same of a number that a case can have for a kind.
+pub fn known_kind(n: u64) -> Option<Kind>
     ensures kind { IfSome result (λ kind. kind ≡ case_kind_of n) }
     ensures none { IsNone result ↔ (5 < n) }
 {
     match n {
-        0 => Some(Kind::Fetch),
-        1 => Some(Kind::Load),
-        2 => Some(Kind::Store),
-        3 => Some(Kind::Push),
-        4 => Some(Kind::Pop),
-        5 => Some(Kind::Swap),
+        0..=5 => Some(kind(n)),
         _ => None,
     }
 }
@@ -102,7 +111,7 @@ fn read(given: &[u64]) -> Option<Access<'_>>
         mpmm: pmm(*mpmm)?,
     };
     Some(Access {
-        kind: kind(*access)?,
+        kind: known_kind(*access)?,
         width: width::of(*bytes)?,
         control,
         address: *address,

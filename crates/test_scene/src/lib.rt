@@ -43,9 +43,9 @@ pub struct Scene<'a> {
 // Where memory is not as it is to be, what is there and what is to be there.
 #[derive(Clone, Copy, Debug, PartialEq, Eq)]
 pub struct Difference {
-    pub offset: usize,
-    pub found: u8,
-    pub wanted: u8,
+    pub offset: u64,
+    pub found: u64,
+    pub wanted: u64,
 }
 
 impl<'a> Scene<'a> {
@@ -85,14 +85,14 @@ impl<'a> Scene<'a> {
 
 // The first byte of memory that is not as it is to be.
 pub fn first_difference(found: &[u8], wanted: &[u8]) -> Option<Difference>
-    ensures { IfSome result (λ d. d.offset < length found.now) }
+    ensures { IfSome result (λ d. (d.offset < length found.now) × (d.found ≤ 255) × (d.wanted ≤ 255)) }
 {
     let mut bytes = found.iter().zip(wanted).enumerate();
     let (offset, (found, wanted)) = bytes.find(|(_, (found, wanted))| found != wanted)?;
     Some(Difference {
-        offset,
-        found: *found,
-        wanted: *wanted,
+        offset: offset as u64,
+        found: u64::from(*found),
+        wanted: u64::from(*wanted),
     })
 }
 
@@ -102,10 +102,7 @@ pub fn told(difference: Option<Difference>) -> ([u64; 2], [u64; 2])
     ensures wrong { IfSome difference (λ d. get_or result.1 0 0 ≡ d.offset) }
 {
     match difference {
-        Some(d) => (
-            [NOWHERE, u64::from(d.wanted)],
-            [d.offset as u64, u64::from(d.found)],
-        ),
+        Some(d) => ([NOWHERE, d.wanted], [d.offset, d.found]),
         None => ([NOWHERE, 0], [NOWHERE, 0]),
     }
 }
