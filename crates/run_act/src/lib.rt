@@ -4,7 +4,7 @@
 // One match for all: a second one would be a second jump for each instruction (docs/SPEED.md).
 #![tactic(auto)]
 
-ghost use Rattle.std.specs.Prelude.{Bool, Some, None, List, ◌≡◌, ℕ, ◌+◌, ◌^◌, ◌<◌, ◌≤◌, length, get_or};
+ghost use Rattle.std.specs.Prelude.{Bool, IfSome, Some, None, List, ◌≡◌, ℕ, ◌+◌, ◌^◌, ◌<◌, ◌≤◌, length, get_or};
 ghost use Rattle.word.specs.Sum.{sum_of};
 ghost use Rattle.isa.specs.declared.Access.TheVariants as access;
 ghost use Rattle.isa.specs.declared.Kind.TheVariants as kind;
@@ -18,7 +18,7 @@ ghost use Rattle.step_meaning.specs.Instruction.{next_of};
 ghost use Rattle.csr_words.specs.Words.{◌of◌, SSP};
 ghost use Rattle.run_pages.specs.Pages.{Remembers};
 ghost use Rattle.run_form.specs.Form.{does_of};
-ghost use Rattle.run_act.specs.Act.{Acts};
+ghost use Rattle.run_act.specs.Act.{Acts, Touched};
 
 use address::control::Control;
 use csr_words::{COUNT, SSP};
@@ -106,6 +106,7 @@ fn load(
     ensures does { (w : List ℕ) → Acts result (at_of (access.Load n sign)
         (place_of c kind.Load n (sum_of a off) map.now (length mem.now)) rd 0 0 0 (next_of pc) mem.now) x.old
         w mem.now x.new w mem.now }
+    ensures stored { IfSome result (λ t. t.stored ≡ None) }
     ensures pages { Remembers pages.new c map.now (length mem.now) }
 {
     if let Some(at) = run_pages::seek(pages, Kind::Load, n, sum::sum(a, off), c, mem, map) {
@@ -130,6 +131,7 @@ fn store(
     ensures does { (x w : List ℕ) → Acts result (at_of (access.Store n)
         (place_of c kind.Store n (sum_of a off) map.now (length mem.old)) 0 0 v 0 (next_of pc) mem.old) x w
         mem.old x w mem.new }
+    ensures stored { IfSome result (λ t. Touched t.stored mem.old mem.new) }
     ensures pages { Remembers pages.new c map.now (length mem.old) }
 {
     if let Some(at) = run_pages::seek(pages, Kind::Store, n, sum::sum(a, off), c, mem, map) {
@@ -155,6 +157,7 @@ fn push(
     ensures does { (x : List ℕ) → Acts result (at_of access.Push (place_of c kind.Push Double (push_of (SSP of w.old))
         map.now (length mem.old)) 0 0 v (SSP of w.old) (next_of pc) mem.old) x w.old
         mem.old x w.new mem.new }
+    ensures stored { IfSome result (λ t. Touched t.stored mem.old mem.new) }
     ensures pages { Remembers pages.new c map.now (length mem.old) }
 {
     let top = sum::difference(w[SSP], 8);
@@ -182,6 +185,7 @@ fn pop(
     ensures does { (x : List ℕ) → Acts result (at_of access.Pop (place_of c kind.Pop Double (SSP of w.old)
         map.now (length mem.now)) 0 v 0 (SSP of w.old) (next_of pc) mem.now) x w.old
         mem.now x w.new mem.now }
+    ensures stored { IfSome result (λ t. t.stored ≡ None) }
     ensures pages { Remembers pages.new c map.now (length mem.now) }
 {
     let top = w[SSP];

@@ -15,9 +15,9 @@ use Rattle.run_form.specs.declared.Form.{Form}
 use Rattle.run_form.specs.declared.Op.TheVariants.{Add}
 use Rattle.run_fast.specs.declared.Entry.{Entry}
 
--- what an empty entry has for an address: no multiple of 4
+-- what an empty entry has for an address: no multiple of 4. Its bytes are alike, so that the compiler fills with them at once
 abbrev pub none : ℕ
-none = 1
+none = 0x0101010101010101
 
 -- the entry of an address
 abbrev pub slot_of : (pc : ℕ) → ℕ

@@ -25,16 +25,17 @@ use Rattle.run_pages.specs.Pages.{kind_at, OnPage, Covers, Remembers}
 use Rattle.run_pages.specs.declared.Page.{Page}
 use Rattle.run_pages.proofs.Decided.{decided}
 
--- no address passes the test by 8
-none_on : (w : Width) (a : ℕ) → OnPage 8 w a → ⊥
+-- no address passes the test by an empty page's: that lies 0x808 bytes into its own page
+none_on : (w : Width) (a : ℕ) → OnPage 0x0808080808080808 w a → ⊥
 none_on Byte a e = omega arith
 none_on Half a e = omega arith
 none_on Word a e = omega arith
 none_on Double a e = omega arith
 
-pub empty : (c : Control) (map : List ℕ) (len : ℕ) → Remembers (replicate 384 (record { first = 8; at = 0 })) c map len
+pub empty : (c : Control) (map : List ℕ) (len : ℕ)
+    → Remembers (replicate 384 (record { first = 0x0808080808080808; at = 0x0808080808080808 })) c map len
 empty c map len j l w a h e =
-    let s = ap (λ (p : Page). p.first) (get_or-replicate 384 j (record { first = 8; at = 0 }) (record { first = 0; at = 0 }) l) in
+    let s = ap (λ (p : Page). p.first) (get_or-replicate 384 j _ (record { first = 0; at = 0 }) l) in
     absurd (none_on w a (sym s ∙ e))
 
 module _ (ps : List Page) (c : Control) (map : List ℕ) (len : ℕ) (j : ℕ) (p : Page) (long : length ps ≡ 384) (below : j < 384) where

@@ -17,3 +17,6 @@ returns-in-Some-clause-does c =
       placed _ _ _ _ _ _ _ _ _ _ _ _ _ _ _ found (c.sum.ensures, refl, rw top, stored_there _ _ _ _ _ c.store.ensures),
       touched _ _ _ _ _ _ _ found _ _ _ refl c.store.ensures,
     )
+
+pub returns-in-Some-clause-stored : goal.returns-in-Some-clause-stored
+returns-in-Some-clause-stored c = touched _ _ _ _ _ _ _ (rw c.difference-top.ensures at c.in-Some.ensures.place) _ _ _ refl c.store.ensures

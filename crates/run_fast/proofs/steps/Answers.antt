@@ -34,7 +34,7 @@ module _ (j : Joined-entries-k) where
       elim j.if-entries-k.branch [
         | then-entries-k+in-Some w ↦
             made_ready l.entries l.frames l.pc s l.mem map _ j.if-entries-k.entries j.if-entries-k.frames l.invariant.5 l.invariant.6 l.invariant.8
-            (w.in-Some.ensures.0, w.in-Some.ensures.1, w.in-Some.ensures.2, w.entries-is ∙ w.in-Some.ensures.3, w.frames-is ∙ w.in-Some.ensures.4)
+            (w.in-Some.ensures.read.0, w.in-Some.ensures.read.1, w.in-Some.ensures.read.2, w.entries-is ∙ w.in-Some.ensures.read.3, w.frames-is ∙ w.in-Some.ensures.read.4)
         | else-entries-k w ↦
             is_ready l.entries l.frames l.pc s l.mem map j.if-entries-k.entries j.if-entries-k.frames l.invariant.5 l.invariant.6 l.invariant.8
             w.if-entries-k.false w.entries-is w.frames-is
